@@ -1,0 +1,29 @@
+-- The definition of the program, in the order in which it is to be read.
+-- Numbers: binary32 with the stand-ins, lists, vectors.
+pub mod Floats
+pub mod Lists
+pub mod Vectors
+-- The model: settings, the noisy-OR table, the convolution tree, the factor graph and its components.
+pub mod Settings
+pub mod NoisyOr
+pub mod ConvolutionTree
+pub mod FactorGraph
+pub mod Components
+-- The schedule: directions and their messages, opening and sweeps, the queue, the run as a list of events.
+pub mod Directions
+pub mod Messages
+pub mod Sweeps
+pub mod Priorities
+pub mod Run
+-- The call: what is answered, what is refused, what every buffer holds afterwards; a part entered by itself.
+pub mod Answer
+pub mod Refusals
+pub mod Call
+pub mod PartAlone
+-- The program: the bale file and its listing.
+pub mod BaleFile
+pub mod Text
+pub mod Listing
+-- Computed: the constants, and document 01's 'Bales to prove'.
+pub mod Constants
+pub mod Bales

@@ -1,0 +1,35 @@
+-- Lists: runs of numbers, choosing, and where a thing stands. `eq` is the test by which two things are the same.
+use Prim.Native.Nat.{ℕ, zero, suc}
+use mathlib.Core.Bool.{Bool, true, false, cond, _||_}
+use mathlib.Core.List.{List, [], _∷_, _++_}
+
+-- n numbers, from i on
+abbrev pub range : ℕ → ℕ → List ℕ
+range i zero = []
+range i (suc n) = i ∷ range (suc i) n
+
+module _ {A : Type 0} where
+  -- x before r, or r alone
+  abbrev pub consIf : Bool → A → List A → List A
+  consIf true x r = x ∷ r
+  consIf false x r = r
+
+  -- the things that pass a test, in their order
+  abbrev pub filter : (A → Bool) → List A → List A
+  filter f [] = []
+  filter f (x ∷ xs) = consIf (f x) x (filter f xs)
+
+  -- one list after the other
+  abbrev pub concat : List (List A) → List A
+  concat [] = []
+  concat (x ∷ xs) = x ++ concat xs
+
+module _ {A : Type 0} (eq : A → A → Bool) where
+  -- whether a stands in the list, and at which place first
+  abbrev pub mem : A → List A → Bool
+  mem a [] = false
+  mem a (x ∷ xs) = eq a x || mem a xs
+
+  abbrev pub indexOf : A → List A → ℕ
+  indexOf a [] = zero
+  indexOf a (x ∷ xs) = cond (eq a x) zero (suc (indexOf a xs))

@@ -1,0 +1,13 @@
+-- What a call is told beside the graph (the arguments of `zero_lookahead_bp` of src/lib.rs).
+use Prim.Native.Nat.{ℕ}
+use mathlib.Core.Bool.{Bool}
+use lib.Ieee.{Float}
+
+-- alpha, beta and regularised make the noisy-OR tables, prior the grades' initial beliefs; tolerance and loopLimit end the schedule
+pub record Settings : Type 0 where
+  pub alpha : Float
+  pub beta : Float
+  pub prior : Float
+  pub regularised : Bool
+  pub tolerance : Float
+  pub loopLimit : ℕ

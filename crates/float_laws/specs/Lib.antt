@@ -1,0 +1,16 @@
+pub mod Order
+pub mod Rounded
+pub mod Ops
+pub mod Laws
+pub mod Interval
+pub mod Sums
+pub mod Table
+pub mod InPlace
+pub mod Same
+pub mod Patterns
+pub mod BitOrder
+pub mod Error
+pub mod Totals
+pub mod Products
+pub mod Tight
+pub mod Scaled

@@ -1,0 +1,78 @@
+-- Every float that an accepted call answers is finite, and it is a binary32 value: so its bits, and the eight digits that are printed of it, determine it.
+--
+use mathlib.Core.Path.{_≡_, sym, ap, _∙_}
+use mathlib.Core.Bool.{Bool, true, false, not, cond}
+use mathlib.Core.List.{List, [], _∷_}
+use Prim.Native.Nat.{ℕ, zero, suc, _+_, _*_, _/_, _%_, _^_, _≤_, _<_}
+use native.Mathlib.Nat.{pow-suc}
+use native.Mathlib.Omega.{arith}
+use lib.Dec.{T, ltb, ltb→lt, nltb→le}
+use lib.Ieee.{Float, binary32, fits, ofBits, toBits}
+use lib.Ieee.Bits.{ofBits-toBits, toBits-lt}
+use lib.Ieee.Scale.{finite}
+use Rattle.definition.specs.Floats.{largestFinite}
+use Rattle.definition.specs.Settings.{Settings}
+use Rattle.definition.specs.FactorGraph.{Bale}
+use Rattle.definition.specs.Answer.{Belief, PartAnswer, answer, endingResidual, answeredBeliefs, beliefFloats, endingFloats}
+use Rattle.definition.specs.Listing.{hexDigit, hexBefore, hex}
+use Rattle.definition.specs.Refusals.{Buffers, accepted, verdict}
+use Rattle.graph_laws.specs.Lists.{All, All-append, All-mono, All-map-into}
+use Rattle.message_bounds.specs.Accepted.{SettingsFit, EvidenceFits, AllEvidence}
+use Rattle.message_bounds.specs.Beliefs.{Chance, chance-finite, Chances, beliefs-chances}
+use Rattle.message_bounds.specs.Residuals.{Small, small-finite}
+use Rattle.message_bounds.specs.Amounts.{endings-bounded}
+
+pub record Told (x : Float) : Type 0 where
+  pub number : T (finite x)
+  pub holds : T (fits binary32 x)
+  pub back : ofBits binary32 (toBits binary32 x) ≡ x
+
+told : (x : Float) → T (finite x) → T (fits binary32 x) → Told x
+told x f t = record { number = f; holds = t; back = ofBits-toBits binary32 x t }
+
+-- ---- lists of beliefs, and of parts
+told-beliefs : (bs : List Belief) → All Chances bs → All Told (beliefFloats bs)
+unfolding beliefFloats
+told-beliefs [] h = tt
+told-beliefs (b ∷ bs) h = All-append Told (b .value) (beliefFloats bs) (All-mono Chance Told (λ x c. told x (chance-finite x c) (c .holds)) (b .value) (h .0)) (told-beliefs bs (h .1))
+
+all-beliefs : (ps : List PartAnswer) → All (λ q. All Chances (q .beliefs)) ps → All Chances (answeredBeliefs ps)
+unfolding answeredBeliefs
+all-beliefs [] h = tt
+all-beliefs (p ∷ ps) h = All-append Chances (p .beliefs) (answeredBeliefs ps) (h .0) (all-beliefs ps (h .1))
+
+-- ---- the answer
+pub beliefs-told : (s : Settings) (f : Buffers) (b : Bale) → verdict s f b ≡ accepted → SettingsFit s → AllEvidence EvidenceFits (b .markers) → All Told (beliefFloats (answeredBeliefs (answer s b)))
+beliefs-told s f b A t e = told-beliefs (answeredBeliefs (answer s b)) (all-beliefs (answer s b) (beliefs-chances s f b A t e))
+
+pub endings-told : (s : Settings) (f : Buffers) (b : Bale) → verdict s f b ≡ accepted → All Told (endingFloats (answer s b))
+unfolding endingFloats
+endings-told s f b A =
+    All-map-into Told (λ (q : PartAnswer). endingResidual (q .ending)) (answer s b)
+    (All-mono (λ q. Small largestFinite (endingResidual (q .ending))) (λ q. Told (endingResidual (q .ending))) (λ q h. told _ (small-finite largestFinite _ tt h) (h .holds)) (answer s b) (endings-bounded s f b A))
+
+-- ---- the digits
+same-digit : (a b : ℕ) → a < 16 → b < 16 → hexDigit a ≡ hexDigit b → a ≡ b
+unfolding hexDigit
+same-digit a b h k e = go (ltb a 10) (ltb b 10) (λ t. ltb→lt a 10 t) (λ t. nltb→le a 10 t) (λ t. ltb→lt b 10 t) (λ t. nltb→le b 10 t) e
+  where
+    go : (x y : Bool) → (T x → a < 10) → (T (not x) → 10 ≤ a) → (T y → b < 10) → (T (not y) → 10 ≤ b) → cond x (48 + a) (55 + a) ≡ cond y (48 + b) (55 + b) → a ≡ b
+    go true true f f' g g' e = omega arith
+    go true false f f' g g' e = omega (arith, f tt, g' tt)
+    go false true f f' g g' e = omega (arith, f' tt, g tt)
+    go false false f f' g g' e = omega arith
+
+same-digits : (d a b : ℕ) (l m : List ℕ) → a < 16 ^ d → b < 16 ^ d → hexBefore d a l ≡ hexBefore d b m → (a ≡ b) × (l ≡ m)
+unfolding hexBefore
+same-digits zero a b l m h k e = (omega arith, e)
+same-digits (suc d) a b l m h k e =
+    let p : 16 ^ suc d ≡ 16 ^ d * 16 = pow-suc 16 d in
+    let r = same-digits d (a / 16) (b / 16) (hexDigit (a % 16) ∷ l) (hexDigit (b % 16) ∷ m) (omega arith) (omega arith) e in
+    let q : hexDigit (a % 16) ≡ hexDigit (b % 16) = cc (r .1) in
+    (omega (arith, r .0, same-digit (a % 16) (b % 16) (omega arith) (omega arith) q), cc (r .1))
+
+-- Two floats of which the same is printed are the same.
+pub printed-same : (x y : Float) → T (fits binary32 x) → T (fits binary32 y) → hex x ≡ hex y → x ≡ y
+unfolding hex
+printed-same x y t u e =
+    sym (ofBits-toBits binary32 x t) ∙ ap (ofBits binary32) (same-digits 8 (toBits binary32 x) (toBits binary32 y) [] [] (toBits-lt binary32 x t) (toBits-lt binary32 y u) e .0) ∙ ofBits-toBits binary32 y u
