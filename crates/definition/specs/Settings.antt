@@ -1,4 +1,4 @@
--- What a call is told beside the graph (the arguments of `zero_lookahead_bp` of src/lib.rs).
+-- What a call is printable beside the graph (the arguments of `zero_lookahead_bp` of src/lib.rs).
 use Prim.Native.Nat.{ℕ}
 use mathlib.Core.Bool.{Bool}
 use lib.Ieee.{Float}

@@ -95,9 +95,9 @@ twos-map : {A : Type 0} (t : MessageGraph) (f : Edge A → ℕ) (es : List (Edge
 twos-map t f [] h k = tt
 twos-map t f (e ∷ es) h k = (h .0 ∙ k .0, twos-map t f es (h .1) (k .1))
 
-relabelled-map : {A : Type 0} (t : MessageGraph) (f : Edge A → ℕ) (n : ℕ) (es : List (Edge A)) → All (λ e. directionAt t (f e) .messageLength ≡ e .messageLength) es → FactorFirstEdges n es → FactorFirst t n (map f es)
-relabelled-map t f n [] h k = tt
-relabelled-map t f n (e ∷ es) h k = (h .0 ∙ k .0, twos-map t f es (h .1) (k .1))
+factorFirst-map : {A : Type 0} (t : MessageGraph) (f : Edge A → ℕ) (n : ℕ) (es : List (Edge A)) → All (λ e. directionAt t (f e) .messageLength ≡ e .messageLength) es → FactorFirstEdges n es → FactorFirst t n (map f es)
+factorFirst-map t f n [] h k = tt
+factorFirst-map t f n (e ∷ es) h k = (h .0 ∙ k .0, twos-map t f es (h .1) (k .1))
 
 abbrev Reads : MessageGraph → ℕ → List Direction → Type 0
 Reads t k l = (i : ℕ) → i < length l → directionAt t (k + i) ≡ getD l i noDirection
@@ -112,13 +112,13 @@ twos-count : (t : MessageGraph) (k : ℕ) (l : List Direction) → Reads t k l �
 twos-count t k [] r a = tt
 twos-count t k (x ∷ l) r a = (ap (λ (d : Direction). d .messageLength) (reads-first t k x l r) ∙ a .0, twos-count t (suc k) l (reads-rest t k x l r) (a .1))
 
-relabelled-count : (t : MessageGraph) (k n : ℕ) (l : List Direction) → Reads t k l → FactorFirstRow n l → FactorFirst t n (range k (length l))
-relabelled-count t k n [] r a = tt
-relabelled-count t k n (x ∷ l) r a = (ap (λ (d : Direction). d .messageLength) (reads-first t k x l r) ∙ a .0, twos-count t (suc k) l (reads-rest t k x l r) (a .1))
+factorFirst-count : (t : MessageGraph) (k n : ℕ) (l : List Direction) → Reads t k l → FactorFirstRow n l → FactorFirst t n (range k (length l))
+factorFirst-count t k n [] r a = tt
+factorFirst-count t k n (x ∷ l) r a = (ap (λ (d : Direction). d .messageLength) (reads-first t k x l r) ∙ a .0, twos-count t (suc k) l (reads-rest t k x l r) (a .1))
 
-relabelled-row : {A : Type 0} (n : ℕ) (f : Edge A → Direction) → ((e : Edge A) → f e .messageLength ≡ e .messageLength) → (es : List (Edge A)) → FactorFirstEdges n es → FactorFirstRow n (map f es)
-relabelled-row n f h [] k = tt
-relabelled-row n f h (e ∷ es) k = (h e ∙ k .0, All-map-into Two f es (All-mono BinaryEdges (λ x. Two (f x)) (λ x q. h x ∙ q) es (k .1)))
+factorFirst-row : {A : Type 0} (n : ℕ) (f : Edge A → Direction) → ((e : Edge A) → f e .messageLength ≡ e .messageLength) → (es : List (Edge A)) → FactorFirstEdges n es → FactorFirstRow n (map f es)
+factorFirst-row n f h [] k = tt
+factorFirst-row n f h (e ∷ es) k = (h e ∙ k .0, All-map-into Two f es (All-mono BinaryEdges (λ x. Two (f x)) (λ x q. h x ∙ q) es (k .1)))
 
 -- ---- a part of a graph, that has both ends or neither of each edge, and no node twice
 
@@ -158,8 +158,8 @@ module _ {A : Type 0} (eq : A → A → Bool) (sound : (a b : A) → eq a b ≡ 
       go true q k = subst (λ (u : A). R (e .node2) u) (sym (sound v (e .node1) q)) y
       go false q k = subst (λ (u : A). R (e .node1) u) (sym (sound v (e .node2) k)) x
 
-  pub other-messagesIn : (v : A) (e : Edge A) → Holds eq p v → In v e → Holds eq p (otherEnd eq v e)
-  other-messagesIn v e h m = at-other (λ w u. Holds eq p w) v e (touch v e m) (ends v e h m .0) (ends v e h m .1)
+  pub otherEnd-holds : (v : A) (e : Edge A) → Holds eq p v → In v e → Holds eq p (otherEnd eq v e)
+  otherEnd-holds v e h m = at-other (λ w u. Holds eq p w) v e (touch v e m) (ends v e h m .0) (ends v e h m .1)
 
   -- the edge is in the other end's list too
   pub other-in : (v : A) (e : Edge A) → In v e → In (otherEnd eq v e) e
@@ -274,7 +274,7 @@ module _ {A : Type 0} (eq : A → A → Bool) (sound : (a b : A) → eq a b ≡ 
       (each-in (λ e. directionFrom fs n (edgeAt L (indexOf E e ls)) ≡ out v e) v
       (λ e m.
       ap (λ (k : ℕ). directionFrom fs k (edgeAt L (indexOf E e ls))) q ∙ ap (λ (d : Direction). getD fs (d .start) 0 + d .endInStart) (inward-at v e h m)
-      ∙ ap (λ (k : ℕ). k + indexOf E e (inc (otherEnd eq v e))) (fs-at (otherEnd eq v e) (other-messagesIn v e h m))))
+      ∙ ap (λ (k : ℕ). k + indexOf E e (inc (otherEnd eq v e))) (fs-at (otherEnd eq v e) (otherEnd-holds v e h m))))
 
   messageNodes-from : (pre q : List A) → p ≡ pre ++ q → messageNodesFrom L fs (length pre) (map (subgraphNode eq kind es ls) q) ≡ map messageNodeOf q
   unfolding messageNodesFrom
@@ -328,7 +328,7 @@ module _ {A : Type 0} (eq : A → A → Bool) (sound : (a b : A) → eq a b ≡ 
       ∙ getD-map-index E (eqEdge-sound eq sound same) (eqEdge-same eq sound same) (dir v) noDirection e (inc v) m
 
   pub direction-out : (v : A) (e : Edge A) → Holds eq p v → In v e → directionAt byNames (out v e) ≡ dir (otherEnd eq v e) e
-  direction-out v e h m = direction-at (otherEnd eq v e) e (other-messagesIn v e h m) (other-in v e m)
+  direction-out v e h m = direction-at (otherEnd eq v e) e (otherEnd-holds v e h m) (other-in v e m)
 
   inside-from : (q : List A) (v : A) → mem eq v q ≡ true → off q v + length (inc v) ≤ length (concat (map row q))
   inside-from [] v h = absurd (false≢true h)
@@ -400,15 +400,15 @@ module _ {A : Type 0} (eq : A → A → Bool) (sound : (a b : A) → eq a b ≡ 
       twos-own : (v : A) → Holds eq p v → All BinaryEdges (inc v) → AllBinary t (incoming (messageNodeOf v))
       twos-own v h a = subst (λ (n : ℕ). AllBinary t (range (off p v) n)) (lengths v) (twos-count t (off p v) (row v) (reads v h) (All-map-into Two (dir v) (inc v) a))
 
-      relabelled-own : (v : A) → Holds eq p v → FactorFirstEdges (length (inc v)) (inc v) → FactorFirst t (length (messageNodeOf v .outgoing)) (incoming (messageNodeOf v))
-      relabelled-own v h a =
+      factorFirst-own : (v : A) → Holds eq p v → FactorFirstEdges (length (inc v)) (inc v) → FactorFirst t (length (messageNodeOf v .outgoing)) (incoming (messageNodeOf v))
+      factorFirst-own v h a =
           subst (λ (n : ℕ). FactorFirst t n (incoming (messageNodeOf v))) (sym (length-map (inc v) (out v)))
           (subst (λ (n : ℕ). FactorFirst t (length (inc v)) (range (off p v) n)) (lengths v)
-          (relabelled-count t (off p v) (length (inc v)) (row v) (reads v h) (relabelled-row (length (inc v)) (dir v) (λ e. refl) (inc v) a)))
+          (factorFirst-count t (off p v) (length (inc v)) (row v) (reads v h) (factorFirst-row (length (inc v)) (dir v) (λ e. refl) (inc v) a)))
 
-      relabelled-out : (v : A) → Holds eq p v → FactorFirstEdges (length (inc v)) (inc v) → FactorFirst t (length (messageNodeOf v .outgoing)) (messageNodeOf v .outgoing)
-      relabelled-out v h a =
-          subst (λ (n : ℕ). FactorFirst t n (messageNodeOf v .outgoing)) (sym (length-map (inc v) (out v))) (relabelled-map t (out v) (length (inc v)) (inc v) (outs-long v h) a)
+      factorFirst-out : (v : A) → Holds eq p v → FactorFirstEdges (length (inc v)) (inc v) → FactorFirst t (length (messageNodeOf v .outgoing)) (messageNodeOf v .outgoing)
+      factorFirst-out v h a =
+          subst (λ (n : ℕ). FactorFirst t n (messageNodeOf v .outgoing)) (sym (length-map (inc v) (out v))) (factorFirst-map t (out v) (length (inc v)) (inc v) (outs-long v h) a)
 
       within : (v : A) → Holds eq p v → messageNodeOf v .firstIncoming + length (messageNodeOf v .outgoing) ≤ length (t .directions)
       within v h = omega (arith, inside v h, length-map (inc v) (out v))
@@ -421,8 +421,8 @@ module _ {A : Type 0} (eq : A → A → Bool) (sound : (a b : A) → eq a b ≡ 
           record {
             some-grades = omega (arith, a .0, length-map (inc v) (out v));
             inside = within v h;
-            ins-led = relabelled-own v h (a .2);
-            outs-led = relabelled-out v h (a .2);
+            incoming-factorFirst = factorFirst-own v h (a .2);
+            outgoing-factorFirst = factorFirst-out v h (a .2);
           }
 
       paired : (v : A) → Holds eq p v → (length (inc v) ≤ 1024) × All BinaryEdges (inc v) → Paired Good t (messageNodeOf v)
@@ -469,7 +469,7 @@ module _ {A : Type 0} (eq : A → A → Bool) (sound : (a b : A) → eq a b ≡ 
 
           q : (v : A) (e : Edge A) → Holds eq p v → In v e → Along (nodeAt t (indexOf eq (otherEnd eq v e) p) .kind) (nodeAt t (indexOf eq v p) .kind) (e .messageLength)
           q v e h m =
-              subst (λ (x : MessageNode). Along (x .kind) (nodeAt t (indexOf eq v p) .kind) (e .messageLength)) (sym (messageNode-at (otherEnd eq v e) (other-messagesIn v e h m)))
+              subst (λ (x : MessageNode). Along (x .kind) (nodeAt t (indexOf eq v p) .kind) (e .messageLength)) (sym (messageNode-at (otherEnd eq v e) (otherEnd-holds v e h m)))
               (subst (λ (x : MessageNode). Along (kind (otherEnd eq v e)) (x .kind) (e .messageLength)) (sym (messageNode-at v h)) (H .along v e h m))
 
       pub by-names-kept : MessageGraphKept Good s t
@@ -486,6 +486,6 @@ module _ {A : Type 0} (eq : A → A → Bool) (sound : (a b : A) → eq a b ≡ 
           q : (v : A) (e : Edge A) → Holds eq p v → In v e
               → DirectionKept Good t (nodeAt t (indexOf eq (otherEnd eq v e) p) .kind) (nodeAt t (indexOf eq v p) .kind) (indexOf E e (inc (otherEnd eq v e))) (nodeAt t (indexOf eq (otherEnd eq v e) p))
           q v e h m =
-              subst (λ (x : MessageNode). DirectionKept Good t (x .kind) (nodeAt t (indexOf eq v p) .kind) (indexOf E e (inc (otherEnd eq v e))) x) (sym (messageNode-at (otherEnd eq v e) (other-messagesIn v e h m)))
+              subst (λ (x : MessageNode). DirectionKept Good t (x .kind) (nodeAt t (indexOf eq v p) .kind) (indexOf E e (inc (otherEnd eq v e))) x) (sym (messageNode-at (otherEnd eq v e) (otherEnd-holds v e h m)))
               (subst (λ (x : MessageNode). DirectionKept Good t (kind (otherEnd eq v e)) (x .kind) (indexOf E e (inc (otherEnd eq v e))) (messageNodeOf (otherEnd eq v e))) (sym (messageNode-at v h))
-              (way-kept (kind (otherEnd eq v e)) (kind v) (otherEnd eq v e) e (other-messagesIn v e h m) (H .direction v e h m)))
+              (way-kept (kind (otherEnd eq v e)) (kind v) (otherEnd eq v e) e (otherEnd-holds v e h m) (H .direction v e h m)))

@@ -26,24 +26,11 @@ use Rattle.graph_laws.specs.Incident.{toGrade, ofGrade, markerEdges-all}
 use Rattle.graph_laws.specs.AloneChecks.{eqPair}
 use Rattle.graph_laws.specs.Accepted.{Passes, passes-all, valid, pairs-apart}
 use Rattle.graph_laws.specs.LocalAnswer.{is-part}
-use Rattle.graph_laws.specs.Claims.{IsComponent}
+use Rattle.claims.specs.Parts.{AcceptedPart, noNode, subgraphNodeAt, degreeOf, edgeNumberAt}
 use Rattle.graph_laws.specs.Places.{At, not-first, at-place, no-longer, twice}
-use Rattle.graph_laws.specs.ByNames.{addAllNew-has, mem-concat, off, out, dir, row, messageNodeOf, byNames, messageGraph-by-names, touch, in-edges, at-other, other-messagesIn, other-in, messageNode-at, direction-at, direction-out, inside}
+use Rattle.graph_laws.specs.ByNames.{addAllNew-has, mem-concat, off, out, dir, row, messageNodeOf, byNames, messageGraph-by-names, touch, in-edges, at-other, otherEnd-holds, other-in, messageNode-at, direction-at, direction-out, inside}
 
 -- ---- a part's graph and its message graph, read by number
-
-abbrev pub noNode : SubgraphNode
-noNode = record { kind = grade; edges = [] }
-
-abbrev pub subgraphNodeAt : Subgraph → ℕ → SubgraphNode
-subgraphNodeAt g n = getD (g .nodes) n noNode
-
--- how many positions node n has, and the number of its edge at position i
-abbrev pub degreeOf : Subgraph → ℕ → ℕ
-degreeOf g n = length (subgraphNodeAt g n .edges)
-
-abbrev pub edgeNumberAt : Subgraph → ℕ → ℕ → ℕ
-edgeNumberAt g n i = getD (subgraphNodeAt g n .edges) i 0
 
 -- the direction by which node n gets from its neighbour at position i, and the one by which it sends there
 abbrev pub incomingAt : MessageGraph → ℕ → ℕ → ℕ
@@ -245,7 +232,7 @@ module _ {A : Type 0} (eq : A → A → Bool) (sound : (a b : A) → eq a b ≡ 
   out-lt : (v : A) (e : Edge A) → Holds eq p v → In v e → outgoingAt N (indexOf eq v p) (indexOf E e (inc v)) < length (N .directions)
   out-lt v e h m =
       subst (λ (k : ℕ). k < length (N .directions)) (sym (out-is v e h m))
-      (in-lt (otherEnd eq v e) e (other-messagesIn eq sound same es p both once kind v e h m) (other-in eq sound same es p both once kind v e m))
+      (in-lt (otherEnd eq v e) e (otherEnd-holds eq sound same es p both once kind v e h m) (other-in eq sound same es p both once kind v e m))
 
   turned-dirs : (v : A) (e : Edge A) → Reversed (Dir v e) (Back v e)
   turned-dirs v e = record { start = refl; endInStart = refl; end = refl; startInEnd = refl; messageLength = refl }
@@ -277,7 +264,7 @@ module _ {A : Type 0} (eq : A → A → Bool) (sound : (a b : A) → eq a b ≡ 
 
   way-fits : (v : A) (e : Edge A) → Holds eq p v → In v e → DirectionFits L N (Off p v + indexOf E e (inc v)) (Dir v e)
   way-fits v e h m =
-      let k = other-messagesIn eq sound same es p both once kind v e h m in
+      let k = otherEnd-holds eq sound same es p both once kind v e h m in
       let l = other-in eq sound same es p both once kind v e m in
       record {
         start-there = node-lt (otherEnd eq v e) k;
@@ -457,7 +444,7 @@ part-consistent b ok once p is =
     (subst (NoDup eqNode) (is .is) (part-nodup eqNode eqNode-sound eqNode-same (builtGraph b) (built-inside b ok) (is .done) (is .root)))
     (kindOf b) (edges-nodup b once) (built-straight b)
 
-pub consistent : (s : Settings) (f : Buffers) (b : Bale) (n : ℕ) (p : List Node) → IsComponent s f b n p → Consistent (subgraphOf b p) (messageGraphOf b p)
+pub consistent : (s : Settings) (f : Buffers) (b : Bale) (n : ℕ) (p : List Node) → AcceptedPart s f b n p → Consistent (subgraphOf b p) (messageGraphOf b p)
 consistent s f b n p h =
     let P : Passes s f b = passes-all s f b (h .accepts) in
     part-consistent b (valid b (P .known)) (pairs-apart b (P .once)) p (is-part b (valid b (P .known)) n p (h .stands))

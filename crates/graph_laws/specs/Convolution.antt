@@ -140,9 +140,9 @@ counted-at g i (suc n) zero h = ap g (sym (add-zero i))
 counted-at g i (suc n) (suc k) h = counted-at g (suc i) n k (le-of-suc-le-suc h) ∙ ap g (suc-add i k ∙ sym (add-suc i k))
 
 -- For all lists, empty ones too: the definition's convolution is what the loop leaves that starts from zeros.
-pub convolve-rows : (a b : List Float) → convolve a b ≡ addAllProducts 0 a b (replicate (length a + length b - 1) zeroᶠ)
+pub convolve-accumulates : (a b : List Float) → convolve a b ≡ addAllProducts 0 a b (replicate (length a + length b - 1) zeroᶠ)
 unfolding convolve sumOf terms
-convolve-rows a b = ext-getD nan (convolve a b) made (length-convolve a b ∙ sym long) each
+convolve-accumulates a b = ext-getD nan (convolve a b) made (length-convolve a b ∙ sym long) each
   where
     n : ℕ
     n = length a + length b - 1

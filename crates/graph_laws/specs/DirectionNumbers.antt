@@ -7,7 +7,8 @@ use lib.ListN.{length, getD, length-map, length-append}
 use Rattle.definition.specs.Components.{Subgraph, SubgraphNode}
 use Rattle.definition.specs.Directions.{Direction, MessageNode, noMessageNode, noDirection, edgeAt, directionTo, directionsTo, firstsIncoming, directionFrom, messageNodesFrom, messageGraph, nodeAt, directionAt}
 use Rattle.graph_laws.specs.ByNames.{getD-front, getD-back}
-use Rattle.graph_laws.specs.Consistency.{noNode, subgraphNodeAt, degreeOf, edgeNumberAt, incomingAt, outgoingAt}
+use Rattle.claims.specs.Parts.{noNode, subgraphNodeAt, degreeOf, edgeNumberAt}
+use Rattle.graph_laws.specs.Consistency.{incomingAt, outgoingAt}
 
 pub getD-mapped : {X Y : Type 0} (f : X → Y) (xs : List X) (i : ℕ) (e : X) (d : Y) → i < length xs → getD (map f xs) i d ≡ f (getD xs i e)
 getD-mapped f [] i e d h = absurd (let z : ⊥ = omega arith in z)

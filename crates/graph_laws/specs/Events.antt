@@ -9,6 +9,8 @@ use mathlib.Core.Option.{Option, none, some}
 use mathlib.Core.List.{List, [], _∷_, _++_, append-assoc}
 use lib.Ieee.{lt}
 use lib.ListN.{replicate}
+use Rattle.claims.specs.Parts.{Present}
+use Rattle.claims.specs.Claims.{Passed, EndsBy, RunFollows}
 use Rattle.definition.specs.Settings.{Settings}
 use Rattle.definition.specs.Directions.{MessageGraph}
 use Rattle.definition.specs.Run.{State, scheduledStep, beginLoop, Event, stepped, applyEvent, stateAfter, openingAndSweeps, events, Ending, limit, settled, empty, Ended, loop, run}
@@ -27,39 +29,23 @@ events-more m n = ap (λ (l : List Event). openingAndSweeps ++ l) (replicate-mor
 
 -- ---- the loop
 
-abbrev pub Present : {A : Type 0} → Option A → Type 0
-Present none = ⊥
-Present (some x) = Unit {0}
-
 module _ (s : Settings) (t : MessageGraph) where
   pub after-append : (es fs : List Event) (x : State) → stateAfter s t (es ++ fs) x ≡ stateAfter s t fs (stateAfter s t es x)
   unfolding stateAfter
   after-append [] fs x = refl
   after-append (e ∷ es) fs x = after-append es fs (applyEvent s t e x)
 
-  -- the three tests before a step, where k steps are left before the limit
-  pub record Passed (k : ℕ) (x : State) : Type 0 where
-    pub room : 0 < k
-    pub unsettled : lt (s .tolerance) (x .lastResidual) ≡ true
-    pub waiting : Present (highestPriority (x .priorities))
-
-  -- the first test that fails, where k steps are left, and what the ending says of the state
-  abbrev pub EndsBy : ℕ → Ending → State → Type 0
-  EndsBy k (limit r) x = (k ≡ 0) × (r ≡ x .lastResidual)
-  EndsBy k (settled r) x = (0 < k) × (lt (s .tolerance) (x .lastResidual) ≡ false) × (r ≡ x .lastResidual)
-  EndsBy k empty x = (0 < k) × (lt (s .tolerance) (x .lastResidual) ≡ true) × (highestPriority (x .priorities) ≡ none)
-
   -- from x on, with k steps left, n steps are done, and then the loop ends as e says
   pub record Follows (k : ℕ) (x : State) (e : Ended) (n : ℕ) : Type 0 where
     pub few : n ≤ k
     pub state : e .state ≡ stateAfter s t (replicate n stepped) x
     pub counted : e .state .steps ≡ x .steps + n
-    pub passed : (j : ℕ) → j < n → Passed (k - j) (stateAfter s t (replicate j stepped) x)
-    pub ended : EndsBy (k - n) (e .ending) (e .state)
+    pub passed : (j : ℕ) → j < n → Passed s (k - j) (stateAfter s t (replicate j stepped) x)
+    pub ended : EndsBy s (k - n) (e .ending) (e .state)
 
-  at-once : (k : ℕ) (x : State) (e : Ending) → EndsBy k e x → Follows k x (record { ending = e; state = x }) 0
+  at-once : (k : ℕ) (x : State) (e : Ending) → EndsBy s k e x → Follows k x (record { ending = e; state = x }) 0
   unfolding stateAfter
-  at-once k x e h = record { few = omega arith; state = refl; counted = sym (add-zero (x .steps)); passed = λ j l. absurd (let z : ⊥ = omega arith in z); ended = subst (λ (m : ℕ). EndsBy m e x) (let z : k ≡ k - 0 = omega arith in z) h }
+  at-once k x e h = record { few = omega arith; state = refl; counted = sym (add-zero (x .steps)); passed = λ j l. absurd (let z : ⊥ = omega arith in z); ended = subst (λ (m : ℕ). EndsBy s m e x) (let z : k ≡ k - 0 = omega arith in z) h }
 
   applyEvent-some : (x : State) (b : Highest) → highestPriority (x .priorities) ≡ some b → applyEvent s t stepped x ≡ scheduledStep s t b x
   unfolding applyEvent
@@ -77,15 +63,15 @@ module _ (s : Settings) (t : MessageGraph) where
         state = h .state ∙ after-step n x b q;
         counted = h .counted ∙ suc-add (x .steps) n ∙ sym (add-suc (x .steps) n);
         passed = passed;
-        ended = subst (λ (m : ℕ). EndsBy m (e .ending) (e .state)) (same n) (h .ended);
+        ended = subst (λ (m : ℕ). EndsBy s m (e .ending) (e .state)) (same n) (h .ended);
       }
     where
       same : (j : ℕ) → k - j ≡ suc k - suc j
       same j = omega arith
 
-      passed : (j : ℕ) → j < suc n → Passed (suc k - j) (stateAfter s t (replicate j stepped) x)
+      passed : (j : ℕ) → j < suc n → Passed s (suc k - j) (stateAfter s t (replicate j stepped) x)
       passed zero i = record { room = omega arith; unsettled = l; waiting = subst Present (sym q) tt }
-      passed (suc j) i = subst (λ (m : ℕ). Passed m (stateAfter s t (replicate (suc j) stepped) x)) (same j) (subst (Passed (k - j)) (after-step j x b q) (h .passed j (omega arith)))
+      passed (suc j) i = subst (λ (m : ℕ). Passed s m (stateAfter s t (replicate (suc j) stepped) x)) (same j) (subst (Passed s (k - j)) (after-step j x b q) (h .passed j (omega arith)))
 
   loop-follows : (k : ℕ) (x : State) → (n : ℕ) × Follows k x (loop s t k x) n
   unfolding loop
@@ -110,15 +96,7 @@ module _ (s : Settings) (t : MessageGraph) where
   unfolding events
   after-events n x = after-append openingAndSweeps (replicate n stepped) x ∙ ap (stateAfter s t (replicate n stepped)) (sym (begun x))
 
-  -- The run, from whatever state: its last state is what its events leave, its steps are how many the list has, and at most as many as the limit leaves
-  -- after the five sweeps; before each step the tests passed, in the state that the events up to there leave; the ending is the first test that fails.
-  pub record RunFollows (x : State) : Type 0 where
-    pub few : run s t .state .steps ≤ s .loopLimit - 5
-    pub state : run s t .state ≡ stateAfter s t (events (run s t .state .steps)) x
-    pub passed : (j : ℕ) → j < run s t .state .steps → Passed (s .loopLimit - 5 - j) (stateAfter s t (events j) x)
-    pub ended : EndsBy (s .loopLimit - 5 - run s t .state .steps) (run s t .ending) (run s t .state)
-
-  pub run-follows : (x : State) → RunFollows x
+  pub run-follows : (x : State) → RunFollows s t x
   unfolding run
   run-follows x =
       let r = loop-follows (s .loopLimit - 5) (stateAfter s t openingAndSweeps (beginLoop s t (opening s t))) in
@@ -128,8 +106,8 @@ module _ (s : Settings) (t : MessageGraph) where
       record {
         few = subst (λ (m : ℕ). m ≤ s .loopLimit - 5) (sym e) (h .few);
         state = h .state ∙ sym (after-events n x) ∙ ap (λ (m : ℕ). stateAfter s t (events m) x) (sym e);
-        passed = λ j i. subst (Passed (s .loopLimit - 5 - j)) (sym (after-events j x)) (h .passed j (subst (λ (m : ℕ). j < m) e i));
-        ended = subst (λ (m : ℕ). EndsBy (s .loopLimit - 5 - m) (run s t .ending) (run s t .state)) (sym e) (h .ended);
+        passed = λ j i. subst (Passed s (s .loopLimit - 5 - j)) (sym (after-events j x)) (h .passed j (subst (λ (m : ℕ). j < m) e i));
+        ended = subst (λ (m : ℕ). EndsBy s (s .loopLimit - 5 - m) (run s t .ending) (run s t .state)) (sym e) (h .ended);
       }
 
   pub run-events : (x : State) → run s t .state ≡ stateAfter s t (events (run s t .state .steps)) x

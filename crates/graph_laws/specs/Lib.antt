@@ -30,7 +30,6 @@ pub mod Lengths
 pub mod MessageLengths
 pub mod Sending
 -- The theorems: locality, and the bounds from what each way to make a message keeps.
-pub mod Claims
 pub mod Accepted
 pub mod LocalAnswer
 pub mod ByNames

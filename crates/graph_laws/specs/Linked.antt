@@ -24,8 +24,8 @@ use Rattle.graph_laws.specs.AloneChecks.{All-getD}
 use Rattle.graph_laws.specs.ByNames.{other-in}
 use Rattle.graph_laws.specs.Accepted.{passes-all, valid}
 use Rattle.graph_laws.specs.LocalAnswer.{is-part}
-use Rattle.graph_laws.specs.Claims.{IsComponent}
-use Rattle.graph_laws.specs.Consistency.{noNode, degreeOf, NodeFits, consistent, nodes-of}
+use Rattle.claims.specs.Parts.{AcceptedPart, noNode, degreeOf}
+use Rattle.graph_laws.specs.Consistency.{NodeFits, consistent, nodes-of}
 use Rattle.graph_laws.specs.DirectionNumbers.{getD-mapped}
 
 module _ {A : Type 0} (eq : A → A → Bool) (sound : (a b : A) → eq a b ≡ true → a ≡ b) (same : (a : A) → eq a a ≡ true) where
@@ -89,7 +89,7 @@ module _ (b : Bale) (ok : Valid b) (p : List Node) (is : Part b ok p) (more : 1 
       omega (arith, e, All-getD (λ v. 0 < length (incidentEdges eqNode es v)) p tied (gradeNode 0) n k)
 
 -- in a part of over one node each node has a position, and there is a direction
-module _ (s : Settings) (f : Buffers) (b : Bale) (k : ℕ) (p : List Node) (h : IsComponent s f b k p) (more : 1 < length p) where
+module _ (s : Settings) (f : Buffers) (b : Bale) (k : ℕ) (p : List Node) (h : AcceptedPart s f b k p) (more : 1 < length p) where
   pub linked : (n : ℕ) → n < length (subgraphOf b p .nodes) → 0 < degreeOf (subgraphOf b p) n
   linked n l = let v = valid b (passes-all s f b (h .accepts) .known) in degree-some b v p (is-part b v k p (h .stands)) more n l
 

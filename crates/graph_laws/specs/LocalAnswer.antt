@@ -3,10 +3,10 @@ use Prim.Native.Nat.{ℕ, zero, suc, _+_, _≤_, _<_}
 use native.Mathlib.Omega.{arith}
 use native.Mathlib.Nat.{add-zero}
 use mathlib.Core.Path.{_≡_, refl, sym, ap, _∙_, subst}
-use mathlib.Core.Bool.{Bool, true, false}
+use mathlib.Core.Bool.{Bool, true, false, not}
 use mathlib.Core.Option.{Option, none, some}
 use mathlib.Core.List.{List, [], _∷_, map}
-use lib.Dec.{T, eqb, ltb, ltb→lt}
+use lib.Dec.{T, eqb, ltb, ltb→lt, nltb→le}
 use lib.ListN.{length, length-map, getElem?}
 use Rattle.graph_laws.specs.Bools.{not-true, eqb-sound, eqb-same}
 use Rattle.definition.specs.Lists.{filter}
@@ -27,7 +27,9 @@ use Rattle.graph_laws.specs.Names.{Valid, eqNode-same}
 use Rattle.graph_laws.specs.Renumbering.{name, of-grade}
 use Rattle.graph_laws.specs.Locality.{Part, of-nodes, alone-components, alone-subgraph, all-components}
 use Rattle.graph_laws.specs.Accepted.{Passes, passes-all, valid, alone-accepted}
-use Rattle.graph_laws.specs.Claims.{relabelBelief, relabelAnswer, Locality}
+use Rattle.definition.specs.Refusals.{Buffers}
+use Rattle.claims.specs.Parts.{AcceptedPart}
+use Rattle.claims.specs.Claims.{relabelBelief, relabelAnswer, Alike}
 
 -- ---- options and lists
 
@@ -135,6 +137,18 @@ module _ (b : Bale) (v : Valid b) (p : List Node) (is : Part b v p) where
   answer-none : (s : Settings) → length p ≤ 2 → answer s (partAlone b p) ≡ []
   answer-none s l = map-none (relabelAnswer 0 gs) (answer s (partAlone b p)) (answer-relabelled s 0 ∙ answersOf-none s 0 l)
 
+  -- and of more than 2 nodes one answer
+  answersOf-one : (s : Settings) (n : ℕ) → 2 < length p → length (answersOf s b n p) ≡ 1
+  unfolding answersOf
+  answersOf-one s n l = go (ltb 2 (length p)) (λ e. nltb→le 2 (length p) e)
+    where
+      go : (c : Bool) → (T (not c) → length p ≤ 2) → length {A = Answer.PartAnswer} (elim c [ true ↦ partAnswer s n p (messageGraphOf b p) ∷ [] | false ↦ [] ]) ≡ 1
+      go true f = refl
+      go false f = absurd (let z : ⊥ = omega (arith, f tt) in z)
+
+  answer-one : (s : Settings) → 2 < length p → length (answer s (partAlone b p)) ≡ 1
+  answer-one s l = sym (length-map (answer s (partAlone b p)) (relabelAnswer 0 gs)) ∙ ap length (answer-relabelled s 0) ∙ answersOf-one s 0 l
+
 -- ---- what the whole answers with a part's number is what the part yields
 
 abbrev Numbered : ℕ → Answer.PartAnswer → Bool
@@ -184,11 +198,17 @@ module _ (s : Settings) (b : Bale) where
 
 -- ---- the theorem
 
-pub locality : Locality
+pub locality : (s : Settings) (f : Buffers) (b : Bale) (n : ℕ) (p : List Node) → AcceptedPart s f b n p → Alike s f b n p
 locality s f b n p h =
     let P : Passes s f b = passes-all s f b (h .accepts) in
-    let is = is-part b (valid b (P .known)) n p (h .stands) in (
-      alone-accepted s f b P p is,
-      answer-relabelled b (valid b (P .known)) p is s n ∙ sym (whole-answersFrom s b n p (h .stands)),
-      answer-none b (valid b (P .known)) p is s,
-    )
+    let v = valid b (P .known) in
+    let is = is-part b v n p (h .stands) in
+    let e = answer-relabelled b v p is s n ∙ sym (whole-answersFrom s b n p (h .stands)) in
+    record {
+      accepts = alone-accepted s f b P p is;
+      one-part = ap length (alone-components b v p is);
+      same = e;
+      none-alone = answer-none b v p is s;
+      none-in-whole = λ l. sym e ∙ ap (map (relabelAnswer n (gradesIn b p))) (answer-none b v p is s l);
+      one-alone = answer-one b v p is s;
+    }

@@ -23,9 +23,9 @@ use Rattle.definition.specs.Run.{State, initialPriority, beginLoop, MessageUpda
 use Rattle.definition.specs.Priorities.{Highest, highestPriority}
 use Rattle.definition.specs.Refusals.{Buffers}
 use Rattle.graph_laws.specs.Lists.{length-count}
-use Rattle.graph_laws.specs.Claims.{IsComponent, Within, BoundsOf}
-use Rattle.graph_laws.specs.Structure.{long-in-force}
-use Rattle.graph_laws.specs.Consistency.{degreeOf, edgeNumberAt, NodeFits, PositionFits, Consistent, consistent}
+use Rattle.claims.specs.Parts.{AcceptedPart, Within, degreeOf, edgeNumberAt}
+use Rattle.graph_laws.specs.Structure.{WithinByDirection, long-in-force}
+use Rattle.graph_laws.specs.Consistency.{NodeFits, PositionFits, Consistent, consistent}
 
 -- ---- what is written over keeps its length
 
@@ -192,7 +192,7 @@ module _ (g : Subgraph) (t : MessageGraph) (C : Consistent g t) where
       → (n i : ℕ) → n < length (g .nodes) → i < degreeOf g n → Good (messageAt i (messagesIn (nodeAt t n) ms))
   messagesIn-all Good ms h n i l j = subst Good (sym (messagesIn-at ms n i l j)) (h (nodeAt t n .firstIncoming + i) (C .position n i l j .in-there))
 
-module _ (s : Settings) (f : Buffers) (b : Bale) (k : ℕ) (p : List Node) (h : IsComponent s f b k p) where
+module _ (s : Settings) (f : Buffers) (b : Bale) (k : ℕ) (p : List Node) (h : AcceptedPart s f b k p) where
   abbrev g : Subgraph
   g = subgraphOf b p
 
@@ -212,6 +212,6 @@ module _ (s : Settings) (f : Buffers) (b : Bale) (k : ℕ) (p : List Node) (h : 
       ap length (messagesIn-at g t C (stateAfter s t (opened ∷ es) x .store .msgIn) n i l j) ∙ long-in-force s f b k p h es x (nodeAt t n .firstIncoming + i) (P .in-there) ∙ P .in-long
 
   -- and each within the bounds
-  pub messagesIn-within : BoundsOf s b p → (es : List Event) (x : State) (n i : ℕ) → n < length (g .nodes) → i < degreeOf g n
+  pub messagesIn-within : WithinByDirection s b p → (es : List Event) (x : State) (n i : ℕ) → n < length (g .nodes) → i < degreeOf g n
       → Within (messageAt i (messagesIn (nodeAt t n) (stateAfter s t (opened ∷ es) x .store .msgIn)))
   messagesIn-within B es x n i l j = messagesIn-all g t (consistent s f b k p h) Within (stateAfter s t (opened ∷ es) x .store .msgIn) (B es x) n i l j

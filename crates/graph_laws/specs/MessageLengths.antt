@@ -46,8 +46,8 @@ FactorFirst t l (o ∷ os) = (directionAt t o .messageLength ≡ l) × AllBinary
 pub record TreeSound (t : MessageGraph) (x : MessageNode) : Type 0 where
   pub some-grades : 3 ≤ length (x .outgoing)
   pub inside : x .firstIncoming + length (x .outgoing) ≤ length (t .directions)
-  pub ins-led : FactorFirst t (length (x .outgoing)) (incoming x)
-  pub outs-led : FactorFirst t (length (x .outgoing)) (x .outgoing)
+  pub incoming-factorFirst : FactorFirst t (length (x .outgoing)) (incoming x)
+  pub outgoing-factorFirst : FactorFirst t (length (x .outgoing)) (x .outgoing)
 
 abbrev pub MessageNodeSound : MessageGraph → Kind → MessageNode → Type 0
 MessageNodeSound t grade x = AllBinary t (x .outgoing)
@@ -206,7 +206,7 @@ module _ (s : Settings) (t : MessageGraph) (S : Sound t) where
   sends-tree (input e) x a h ms f = absurd h
   sends-tree (tree d) x a h ms f =
       each-built t (incoming x) (x .outgoing) (messagesIn x ms) (simp (length-take, length-drop) (omega (arith, covers t ms (S .wide) f, a .inside))) (length-count (x .firstIncoming) (length (x .outgoing))) (a .some-grades)
-      (below-count _ (x .firstIncoming) (length (x .outgoing)) (a .inside)) (a .ins-led) (a .outs-led) (each-messagesIn (AsLong t) x ms f)
+      (below-count _ (x .firstIncoming) (length (x .outgoing)) (a .inside)) (a .incoming-factorFirst) (a .outgoing-factorFirst) (each-messagesIn (AsLong t) x ms f)
 
   all-trees : (xs : List MessageNode) → All (λ x. MessageNodeSound t (x .kind) x) xs → All (SendsHolding (AsLong t) isTree (λ x ms. treeOutMessages (messagesIn x ms))) xs
   all-trees [] a = tt

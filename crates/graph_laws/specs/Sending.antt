@@ -198,7 +198,7 @@ module _ (Good : Message → Type 0) where
     good-trees (input e) x a c h ms f = absurd h
     good-trees (tree d) x a c h ms f =
         good-built (length (x .outgoing)) (incoming x) (messagesIn x ms) (simp (length-take, length-drop) (omega (arith, covers t ms (N .sound .wide) (as-long-of ms f), a .inside)))
-        (length-count (x .firstIncoming) (length (x .outgoing))) (a .some-grades) c (below-count Bound (x .firstIncoming) (length (x .outgoing)) (a .inside)) (a .ins-led)
+        (length-count (x .firstIncoming) (length (x .outgoing))) (a .some-grades) c (below-count Bound (x .firstIncoming) (length (x .outgoing)) (a .inside)) (a .incoming-factorFirst)
         (each-messagesIn (AsLong t) x ms (as-long-of ms f)) (messagesIn-good x ms (a .inside) f)
 
     all-trees : (xs : List MessageNode) → All (λ x. MessageNodeSound t (x .kind) x) xs → All (λ x. MessageNodeKept t s (x .kind) x) xs → All (SendsHolding (AsLong t) isTree (λ x ms. treeOutMessages (messagesIn x ms))) xs → All (SendsHolding (Fine t) isTree (λ x ms. treeOutMessages (messagesIn x ms))) xs

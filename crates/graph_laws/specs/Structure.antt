@@ -34,7 +34,7 @@ use Rattle.graph_laws.specs.Incident.{toFactor, toGrade, ofGrade, ofInpu
 use Rattle.graph_laws.specs.ByNames.{BinaryEdges, FactorFirstEdges, touch, in-edges, at-other, each-edge, NodeKept, EdgeKept, ListsKept, messageGraph-by-names, by-names-kept}
 use Rattle.graph_laws.specs.Accepted.{Passes, passes-all, valid, sized, pairs-apart, uncrowded}
 use Rattle.graph_laws.specs.LocalAnswer.{is-part}
-use Rattle.graph_laws.specs.Claims.{IsComponent, Within, BoundsOf, BoundsAt, Bounds}
+use Rattle.claims.specs.Parts.{AcceptedPart, Within}
 
 -- ---- a list of grades with a tree, and without
 
@@ -235,33 +235,29 @@ good-evidence s e h = let x = or-no (outside leastEvidence oneᶠ (e .absent)) (
 -- ---- the message graph of every part of an accepted bale
 
 -- for any way to be good that the evidence has
-pub components-kept : (Good : Message → Type 0) (s : Settings) (f : Buffers) (b : Bale) (n : ℕ) (p : List Node) → IsComponent s f b n p → All (λ e. Good (initialBelief s (input e))) (b .markers)
+pub components-kept : (Good : Message → Type 0) (s : Settings) (f : Buffers) (b : Bale) (n : ℕ) (p : List Node) → AcceptedPart s f b n p → All (λ e. Good (initialBelief s (input e))) (b .markers)
     → MessageGraphKept Good s (messageGraphOf b p)
 components-kept Good s f b n p h g =
     let P : Passes s f b = passes-all s f b (h .accepts) in
     messageGraph-kept Good s b (valid b (P .known)) (pairs-apart b (P .once)) (sized b (P .sizes .0) .markers) (uncrowded b (P .few)) g p (is-part b (valid b (P .known)) n p (h .stands))
 
-pub within-kept : (s : Settings) (f : Buffers) (b : Bale) (n : ℕ) (p : List Node) → IsComponent s f b n p → MessageGraphKept Within s (messageGraphOf b p)
+pub within-kept : (s : Settings) (f : Buffers) (b : Bale) (n : ℕ) (p : List Node) → AcceptedPart s f b n p → MessageGraphKept Within s (messageGraphOf b p)
 within-kept s f b n p h =
     components-kept Within s f b n p h
     (All-mono (λ e. badEvidence e ≡ false) (λ e. Within (initialBelief s (input e))) (good-evidence s) (b .markers)
     (All-map-from (λ x. x ≡ false) badEvidence (b .markers) (passes-all s f b (h .accepts) .evidence)))
 
 -- each message in force is as long as its direction says
-pub long-in-force : (s : Settings) (f : Buffers) (b : Bale) (n : ℕ) (p : List Node) → IsComponent s f b n p → (es : List Event) (x : State) (d : ℕ) → d < length (messageGraphOf b p .directions)
+pub long-in-force : (s : Settings) (f : Buffers) (b : Bale) (n : ℕ) (p : List Node) → AcceptedPart s f b n p → (es : List Event) (x : State) (d : ℕ) → d < length (messageGraphOf b p .directions)
     → length (messageAt d (stateAfter s (messageGraphOf b p) (opened ∷ es) x .store .msgIn)) ≡ directionAt (messageGraphOf b p) d .messageLength
 long-in-force s f b n p h es x d i = as-long s (messageGraphOf b p) (within-kept s f b n p h .sound) es x d i
 
+-- Of a part's run: after any list of events that begins with the opening, and from any state, the message in force of each direction lies within.
+abbrev pub WithinByDirection : Settings → Bale → List Node → Type 0
+WithinByDirection s b p = (es : List Event) (x : State) (d : ℕ) → d < length (messageGraphOf b p .directions) → Within (messageAt d (stateAfter s (messageGraphOf b p) (opened ∷ es) x .store .msgIn))
+
 -- The bounds, from any way to be good that keeps a message within, that the evidence has, and that each way to make a message keeps under the settings.
 pub bounds-from-good : (Good : Message → Type 0) → ((m : Message) → Good m → Within m) → (s : Settings) → Keeps Good s
-    → (f : Buffers) (b : Bale) (n : ℕ) (p : List Node) → IsComponent s f b n p → All (λ e. Good (initialBelief s (input e))) (b .markers) → BoundsOf s b p
+    → (f : Buffers) (b : Bale) (n : ℕ) (p : List Node) → AcceptedPart s f b n p → All (λ e. Good (initialBelief s (input e))) (b .markers) → WithinByDirection s b p
 bounds-from-good Good W s K f b n p h g es x d i =
     W (messageAt d (stateAfter s (messageGraphOf b p) (opened ∷ es) x .store .msgIn)) (good-in-force Good s (messageGraphOf b p) K (components-kept Good s f b n p h g) es x d i)
-
--- For `Within` itself the checks give the evidence, and nothing else is left.
-pub bounds-from-keeps : (s : Settings) → Keeps Within s → BoundsAt s
-bounds-from-keeps s K f b n p h l es x d i = good-in-force Within s (messageGraphOf b p) K (within-kept s f b n p h) es x d i
-
--- and it is asked only of the settings of an accepted bale
-pub bounds-from : ((s : Settings) (f : Buffers) (b : Bale) → verdict s f b ≡ accepted → Keeps Within s) → Bounds
-bounds-from K s f b n p h l es x d i = bounds-from-keeps s (K s f b (h .accepts)) f b n p h l es x d i

@@ -27,7 +27,7 @@ use Rattle.definition.specs.Run.{State, beginLoop, Event, opened, swept, applyE
 use Rattle.definition.specs.Refusals.{Buffers}
 use Rattle.graph_laws.specs.Lists.{All}
 use Rattle.graph_laws.specs.Reach.{mem-append}
-use Rattle.graph_laws.specs.Claims.{IsComponent}
+use Rattle.claims.specs.Parts.{AcceptedPart}
 use Rattle.graph_laws.specs.Places.{All-numbered}
 use Rattle.graph_laws.specs.Consistency.{NodeFits, DirectionFits, Consistent, consistent}
 use Rattle.graph_laws.specs.MessageCounts.{length-setMessages, length-computeUpdate, StoreCounts, opening-counts}
@@ -196,6 +196,6 @@ module _ (g : Subgraph) (t : MessageGraph) (C : Consistent g t) where
   opened-unread s es x z h = ap (λ (w : Store). stateAfter s t es (beginLoop s t w)) (opening-unread s z h)
 
 -- of each part of an accepted bale
-pub unread : (s : Settings) (f : Buffers) (b : Bale) (n : ℕ) (p : List Node) → IsComponent s f b n p → (x y : Store) → x .msgIn ≡ y .msgIn → x .msgInLog ≡ y .msgInLog → x .lastBuilds ≡ y .lastBuilds
+pub unread : (s : Settings) (f : Buffers) (b : Bale) (n : ℕ) (p : List Node) → AcceptedPart s f b n p → (x y : Store) → x .msgIn ≡ y .msgIn → x .msgInLog ≡ y .msgInLog → x .lastBuilds ≡ y .lastBuilds
     → StoreCounts (messageGraphOf b p) x → length (y .msgInNew) ≡ length (messageGraphOf b p .directions) → sweep s (messageGraphOf b p) x ≡ sweep s (messageGraphOf b p) y
 unread s f b n p h x y = sweep-unread (subgraphOf b p) (messageGraphOf b p) (consistent s f b n p h) s x y

@@ -9,6 +9,7 @@ use lib.Dec.{T}
 use lib.Ieee.{Float, binary32, le, fits}
 use lib.Ieee.Fits.{and-l, and-r}
 use Rattle.float_laws.specs.Interval.{In, in-wider}
+use Rattle.claims.specs.Parts.{SettingsFit, EvidenceFits, AllEvidence}
 use Rattle.definition.specs.Floats.{c, oneᶠ}
 use Rattle.definition.specs.Settings.{Settings}
 use Rattle.definition.specs.FactorGraph.{Evidence, Bale, input}
@@ -53,20 +54,6 @@ inside a b x h = let t = twice (le a x && le x b) h in record { low = and-l (le 
 neither : (a b : Bool) → T (not (a || b)) → T (not a) × T (not b)
 neither true b h = absurd h
 neither false b h = (tt, h)
-
--- ---- binary32 holds the settings and the evidence
-pub record SettingsFit (s : Settings) : Type 0 where
-  pub alpha : T (fits binary32 (s .alpha))
-  pub beta : T (fits binary32 (s .beta))
-  pub prior : T (fits binary32 (s .prior))
-
-pub record EvidenceFits (e : Evidence) : Type 0 where
-  pub absent : T (fits binary32 (e .absent))
-  pub present : T (fits binary32 (e .present))
-
-abbrev pub AllEvidence : (Evidence → Type 0) → List Evidence → Type 0
-AllEvidence P [] = Unit {0}
-AllEvidence P (e ∷ es) = P e × AllEvidence P es
 
 module _ (s : Settings) (f : Buffers) (b : Bale) (A : verdict s f b ≡ accepted) where
   third : AllFalse (map (outside leastProbability greatestProbability) (s .alpha ∷ s .beta ∷ s .prior ∷ [])) × AllFalse (map badEvidence (b .markers))

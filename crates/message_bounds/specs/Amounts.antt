@@ -25,11 +25,11 @@ use Rattle.graph_laws.specs.Lists.{All}
 use Rattle.graph_laws.specs.Ranks.{NoDup}
 use Rattle.graph_laws.specs.Invariant.{Stored, stored-opening, stored-sweep, stored-step}
 use Rattle.graph_laws.specs.MessageLengths.{Sound, AsLong, fits as lengths}
-use Rattle.graph_laws.specs.Claims.{IsComponent}
+use Rattle.claims.specs.Parts.{AcceptedPart}
 use Rattle.graph_laws.specs.Structure.{within-kept}
 use Rattle.message_bounds.specs.Residuals.{Small, largestResidual, residual-small}
-use Rattle.message_bounds.specs.Caps.{most, Amount, most-finite, residual-low, wider, later, zero-amount, amount-add}
-use Rattle.message_bounds.specs.Outs.{Apart, components-apart}
+use Rattle.message_bounds.specs.AmountBounds.{most, Amount, most-finite, residual-low, wider, later, zero-amount, amount-add}
+use Rattle.message_bounds.specs.OutgoingApart.{Apart, components-apart}
 use Rattle.message_bounds.specs.Answers.{in-answer}
 
 -- ---- what is pending: after k steps, direction by direction
@@ -110,7 +110,7 @@ module _ (s : Settings) (t : MessageGraph) (S : Sound t) (D : Apart t) where
   abbrev Long : Store → Type 0
   Long z = Stored s t (AsLong t) (lengths s t S) z
 
-  pub record Bounded (x : State) : Type 0 where
+  pub record BoundedState (x : State) : Type 0 where
     pub store : Long (x .store)
     pub pending : (d : ℕ) → Amount (x .steps) (getD (x .pending) d zeroᶠ)
     pub priorities : (d : ℕ) → Waits (x .steps) (getD (x .priorities) d none)
@@ -129,7 +129,7 @@ module _ (s : Settings) (t : MessageGraph) (S : Sound t) (D : Apart t) where
   zeros (x ∷ ds) zero = zero-amount 0
   zeros (x ∷ ds) (suc d) = zeros ds d
 
-  bounded-begin : (z : Store) → Long z → Bounded (beginLoop s t z)
+  bounded-begin : (z : Store) → Long z → BoundedState (beginLoop s t z)
   unfolding beginLoop
   bounded-begin z h = record { store = h; pending = zeros (t .directions); priorities = each (range 0 (length (t .directions))); lastResidual = refl }
     where
@@ -138,7 +138,7 @@ module _ (s : Settings) (t : MessageGraph) (S : Sound t) (D : Apart t) where
       each (e ∷ ds) zero = waits-amount _ (residual-small t (z .msgIn) (z .msgInLog) e (h .msgIn) (h .msgInLog))
       each (e ∷ ds) (suc d) = each ds d
 
-  bounded-step : (b : Highest) (x : State) → Amount (x .steps) (b .priority) → Bounded x → Bounded (scheduledStep s t b x)
+  bounded-step : (b : Highest) (x : State) → Amount (x .steps) (b .priority) → BoundedState x → BoundedState (scheduledStep s t b x)
   unfolding scheduledStep
   bounded-step b x a h =
       let k = x .steps in
@@ -154,36 +154,36 @@ module _ (s : Settings) (t : MessageGraph) (S : Sound t) (D : Apart t) where
       }
 
   -- ---- the events
-  bounded-top : (o : Option Highest) (x : State) → Chosen (x .steps) o → Bounded x → Bounded (elim o as (λ c. State) [ none ↦ x | some b ↦ scheduledStep s t b x ])
+  bounded-top : (o : Option Highest) (x : State) → Chosen (x .steps) o → BoundedState x → BoundedState (elim o as (λ c. State) [ none ↦ x | some b ↦ scheduledStep s t b x ])
   bounded-top none x c h = h
   bounded-top (some b) x c h = bounded-step b x c h
 
-  bounded-opening : Bounded (beginLoop s t (opening s t))
+  bounded-opening : BoundedState (beginLoop s t (opening s t))
   bounded-opening = bounded-begin (opening s t) (stored-opening s t (AsLong t) (lengths s t S))
 
-  bounded-applyEvent : (e : Event) (x : State) → Bounded x → Bounded (applyEvent s t e x)
+  bounded-applyEvent : (e : Event) (x : State) → BoundedState x → BoundedState (applyEvent s t e x)
   unfolding applyEvent
   bounded-applyEvent opened x h = bounded-opening
   bounded-applyEvent swept x h = bounded-begin (sweep s t (x .store)) (stored-sweep s t (AsLong t) (lengths s t S) (x .store) (h .store))
   bounded-applyEvent stepped x h = bounded-top (highestPriority (x .priorities)) x (chosen-top (x .steps) (x .priorities) (h .priorities)) h
 
-  bounded-on : (es : List Event) (x : State) → Bounded x → Bounded (stateAfter s t es x)
+  bounded-on : (es : List Event) (x : State) → BoundedState x → BoundedState (stateAfter s t es x)
   unfolding stateAfter
   bounded-on [] x h = h
   bounded-on (e ∷ es) x h = bounded-on es (applyEvent s t e x) (bounded-applyEvent e x h)
 
   -- after any list of events that begins with the opening, and from any state
-  pub bounded-after : (es : List Event) (x : State) → Bounded (stateAfter s t (opened ∷ es) x)
+  pub bounded-after : (es : List Event) (x : State) → BoundedState (stateAfter s t (opened ∷ es) x)
   unfolding stateAfter applyEvent
   bounded-after es x = bounded-on es (beginLoop s t (opening s t)) bounded-opening
 
   -- ---- the loop
-  bounded-loop : (k : ℕ) (x : State) → Bounded x → Small largestFinite (endingResidual (loop s t k x .ending))
+  bounded-loop : (k : ℕ) (x : State) → BoundedState x → Small largestFinite (endingResidual (loop s t k x .ending))
   unfolding loop endingResidual
   bounded-loop zero x h = last-small (x .steps) (x .lastResidual) (h .lastResidual)
   bounded-loop (suc k) x h = tests (lt (s .tolerance) (x .lastResidual)) (highestPriority (x .priorities)) (chosen-top (x .steps) (x .priorities) (h .priorities)) (bounded-loop k)
     where
-      tests : (a : Bool) (o : Option Highest) → Chosen (x .steps) o → ((y : State) → Bounded y → Small largestFinite (endingResidual (loop s t k y .ending))) →
+      tests : (a : Bool) (o : Option Highest) → Chosen (x .steps) o → ((y : State) → BoundedState y → Small largestFinite (endingResidual (loop s t k y .ending))) →
           Small largestFinite (endingResidual ((elim a as (λ c. Ended) [ false ↦ record { ending = settled (x .lastResidual); state = x } | true ↦ elim o as (λ c. Ended) [ none ↦ record { ending = empty; state = x } | some b ↦ loop s t k (scheduledStep s t b x) ] ]) .ending))
       tests false o c f = last-small (x .steps) (x .lastResidual) (h .lastResidual)
       tests true none c f = wider (most 0) largestFinite zeroᶠ (most-finite 0) (zero-amount 0)
@@ -221,12 +221,12 @@ module _ (s : Settings) (t : MessageGraph) where
 
 -- ---- the parts of an accepted bale
 
-module _ (s : Settings) (f : Buffers) (b : Bale) (n : ℕ) (p : List Node) (h : IsComponent s f b n p) where
+module _ (s : Settings) (f : Buffers) (b : Bale) (n : ℕ) (p : List Node) (h : AcceptedPart s f b n p) where
   abbrev its : MessageGraph
   its = messageGraphOf b p
 
   -- After any list of events that begins with the opening, and from any state: what is pending for each direction, what waits, and the last amount.
-  pub amounts : (es : List Event) (x : State) → Bounded s its (within-kept s f b n p h .sound) (components-apart s f b n p h) (stateAfter s its (opened ∷ es) x)
+  pub amounts : (es : List Event) (x : State) → BoundedState s its (within-kept s f b n p h .sound) (components-apart s f b n p h) (stateAfter s its (opened ∷ es) x)
   amounts = bounded-after s its (within-kept s f b n p h .sound) (components-apart s f b n p h)
 
   -- and the residual of each direction
@@ -245,5 +245,5 @@ module _ (s : Settings) (f : Buffers) (b : Bale) (n : ℕ) (p : List Node) (h : 
 pub endings-bounded : (s : Settings) (f : Buffers) (b : Bale) → verdict s f b ≡ accepted → All (λ q. Small largestFinite (endingResidual (q .ending))) (answer s b)
 endings-bounded s f b A = in-answer (λ q. Small largestFinite (endingResidual (q .ending))) s f b (λ n p h. ending n p h) A
   where
-    ending : (n : ℕ) (p : List Node) → IsComponent s f b n p → Small largestFinite (endingResidual (partAnswer s n p (messageGraphOf b p) .ending))
+    ending : (n : ℕ) (p : List Node) → AcceptedPart s f b n p → Small largestFinite (endingResidual (partAnswer s n p (messageGraphOf b p) .ending))
     ending n p h = unfold partAnswer in run-bounded s (messageGraphOf b p) (within-kept s f b n p h .sound) (components-apart s f b n p h)

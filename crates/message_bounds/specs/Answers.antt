@@ -14,9 +14,9 @@ use Rattle.definition.specs.Directions.{messageGraphOf}
 use Rattle.definition.specs.Answer.{PartAnswer, partAnswer, answersOf, answersFrom, answer}
 use Rattle.definition.specs.Refusals.{Buffers, accepted, verdict}
 use Rattle.graph_laws.specs.Lists.{All, All-append}
-use Rattle.graph_laws.specs.Claims.{IsComponent}
+use Rattle.claims.specs.Parts.{AcceptedPart}
 
-module _ (Q : PartAnswer → Type 0) (s : Settings) (f : Buffers) (b : Bale) (h : (n : ℕ) (p : List Node) → IsComponent s f b n p → Q (partAnswer s n p (messageGraphOf b p))) (A : verdict s f b ≡ accepted) where
+module _ (Q : PartAnswer → Type 0) (s : Settings) (f : Buffers) (b : Bale) (h : (n : ℕ) (p : List Node) → AcceptedPart s f b n p → Q (partAnswer s n p (messageGraphOf b p))) (A : verdict s f b ≡ accepted) where
   in-answersFrom : (k : ℕ) (ps : List (List Node)) → ((i : ℕ) (p : List Node) → getElem? ps i ≡ some p → getElem? (componentsOf b) (k + i) ≡ some p) → All Q (answersFrom s b k ps)
   unfolding answersFrom answersOf
   in-answersFrom k [] g = tt

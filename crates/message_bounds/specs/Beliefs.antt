@@ -1,4 +1,4 @@
--- Beliefs are chances: each entry of each belief that an accepted call answers is a value between 0 and 1 that binary32 holds.
+-- Each entry of each belief that an accepted call answers is a value between 0 and 1.
 use mathlib.Core.Path.{_≡_, refl, sym, subst}
 use mathlib.Core.Bool.{true, false}
 use mathlib.Core.List.{List, [], _∷_, map}
@@ -26,22 +26,23 @@ use Rattle.definition.specs.Refusals.{Buffers, accepted, verdict}
 use Rattle.graph_laws.specs.Lists.{All}
 use Rattle.graph_laws.specs.Events.{run-events}
 use Rattle.graph_laws.specs.Sending.{Goods, MessageNodeKept, MessageGraphKept, messagesIn-in-force}
-use Rattle.graph_laws.specs.Claims.{IsComponent}
+use Rattle.claims.specs.Parts.{AcceptedPart}
 use Rattle.graph_laws.specs.Structure.{components-kept}
 use Rattle.message_bounds.specs.Bounded.{Bounded, InRange, prior-bounded}
 use Rattle.message_bounds.specs.Variable.{shares, ln-wide, entry-fits, all-in}
-use Rattle.message_bounds.specs.Accepted.{SettingsFit, EvidenceFits, AllEvidence, settings-in-range, evidence-bounded}
+use Rattle.claims.specs.Parts.{SettingsFit, EvidenceFits, AllEvidence}
+use Rattle.message_bounds.specs.Accepted.{settings-in-range, evidence-bounded}
 use Rattle.message_bounds.specs.Sending.{keeps}
 use Rattle.message_bounds.specs.Bounds.{all-of}
 use Rattle.message_bounds.specs.Answers.{in-answer}
 
 -- ---- a value between 0 and 1 that binary32 holds
-pub record Chance (x : Float) : Type 0 where
+pub record UnitValue (x : Float) : Type 0 where
   pub holds : T (fits binary32 x)
   pub inside : In zeroᶠ oneᶠ x
 
-pub chance-finite : (x : Float) → Chance x → T (finite x)
-chance-finite x h = in-finite (h .inside) tt
+pub unit-finite : (x : Float) → UnitValue x → T (finite x)
+unit-finite x h = in-finite (h .inside) tt
 
 -- ---- a belief of what is held: the two sums of logarithms are finite
 log-finite : (k : ℕ) (b : Message) (ms : List Message) → length ms ≤ 1024 → Bounded b → Goods Bounded ms → T (finite (logMarginal k b ms))
@@ -50,10 +51,10 @@ log-finite k b ms h g w =
     let z : In (minus32 0) (ofNat 0) zeroᶠ = record { low = unfold le neg ofInt in tt; high = unfold le ofInt in tt } in
     in-finite (add-in (fin true 200000 (pos 0)) (fin false 200000 (pos 0)) (ln-wide (entry k b) (entry-fits k b g)) (all-in k 0 zeroᶠ ms (omega arith) z w) (unfold add-test neg ofInt in tt)) tt
 
-pub belief-chances : (b : Message) (ms : List Message) → length ms ≤ 1024 → Bounded b → Goods Bounded ms → All Chance (marginal b ms)
+pub belief-in-unit : (b : Message) (ms : List Message) → length ms ≤ 1024 → Bounded b → Goods Bounded ms → All UnitValue (marginal b ms)
 unfolding marginal
-belief-chances b ms h g w =
-    shares (logMarginal 0 b ms) (logMarginal 1 b ms) (log-finite 0 b ms h g w) (log-finite 1 b ms h g w) (All Chance)
+belief-in-unit b ms h g w =
+    shares (logMarginal 0 b ms) (logMarginal 1 b ms) (log-finite 0 b ms h g w) (log-finite 1 b ms h g w) (All UnitValue)
     (λ x y t i u j. (record { holds = t; inside = i }, (record { holds = u; inside = j }, tt)))
 
 -- ---- the nodes of a message graph are of its nodes' kinds
@@ -72,14 +73,14 @@ unfolding messageGraphOf messageGraph subgraphOf subgraph
 matched b p = matched-from b (subgraphOf b p) (firstsIncoming 0 (subgraphOf b p .nodes)) 0 (builtGraph b .edges) (componentEdges eqNode (builtGraph b .edges) p) p
 
 -- ---- the beliefs of a part
-abbrev pub Chances : Belief → Type 0
-Chances x = All Chance (x .value)
+abbrev pub UnitValues : Belief → Type 0
+UnitValues x = All UnitValue (x .value)
 
 module _ (s : Settings) (b : Bale) (r : InRange s) (t : MessageGraph) (N : MessageGraphKept Bounded s t) (es : List Event) (y : State) where
   abbrev now : List Message
   now = stateAfter s t (opened ∷ es) y .store .msgIn
 
-  beliefs-in : (ns : List Node) (xs : List MessageNode) → Matched b ns xs → All (λ x. MessageNodeKept Bounded t s (x .kind) x) xs → All Chances (beliefsAmong s now ns xs)
+  beliefs-in : (ns : List Node) (xs : List MessageNode) → Matched b ns xs → All (λ x. MessageNodeKept Bounded t s (x .kind) x) xs → All UnitValues (beliefsAmong s now ns xs)
   unfolding beliefsAmong
   beliefs-in [] xs m k = tt
   beliefs-in (gradeNode g ∷ ns) [] m k = tt
@@ -88,22 +89,22 @@ module _ (s : Settings) (b : Bale) (r : InRange s) (t : MessageGraph) (N : Messa
   beliefs-in (treeNode g ∷ ns) [] m k = tt
   beliefs-in (gradeNode g ∷ ns) (x ∷ xs) m k =
       let h = messagesIn-in-force Bounded s t (keeps s r) N es y x (subst (λ (z : Kind). MessageNodeKept Bounded t s z x) (m .0) (k .0)) in
-      (belief-chances (initialBelief s grade) (messagesIn x now) (h .0) (prior-bounded s r) (h .1), beliefs-in ns xs (m .1) (k .1))
+      (belief-in-unit (initialBelief s grade) (messagesIn x now) (h .0) (prior-bounded s r) (h .1), beliefs-in ns xs (m .1) (k .1))
   beliefs-in (factorNode g ∷ ns) (x ∷ xs) m k = beliefs-in ns xs (m .1) (k .1)
   beliefs-in (inputNode g ∷ ns) (x ∷ xs) m k = beliefs-in ns xs (m .1) (k .1)
   beliefs-in (treeNode g ∷ ns) (x ∷ xs) m k = beliefs-in ns xs (m .1) (k .1)
 
 -- ---- the whole
-part-beliefs : (s : Settings) (f : Buffers) (b : Bale) → SettingsFit s → AllEvidence EvidenceFits (b .markers) → (n : ℕ) (p : List Node) → IsComponent s f b n p → All Chances (partAnswer s n p (messageGraphOf b p) .beliefs)
+part-beliefs : (s : Settings) (f : Buffers) (b : Bale) → SettingsFit s → AllEvidence EvidenceFits (b .markers) → (n : ℕ) (p : List Node) → AcceptedPart s f b n p → All UnitValues (partAnswer s n p (messageGraphOf b p) .beliefs)
 unfolding partAnswer events openingAndSweeps
 part-beliefs s f b t e n p h =
     let w = messageGraphOf b p in
     let r = settings-in-range s f b (h .accepts) t in
     let N : MessageGraphKept Bounded s w = components-kept Bounded s f b n p h (all-of _ (b .markers) (evidence-bounded s f b (h .accepts) e)) in
     let x₀ = beginLoop s w (opening s w) in
-    subst (λ (x : State). All Chances (beliefsAmong s (x .store .msgIn) p (w .nodes))) (sym (run-events s w x₀))
+    subst (λ (x : State). All UnitValues (beliefsAmong s (x .store .msgIn) p (w .nodes))) (sym (run-events s w x₀))
     (beliefs-in s b r w N _ x₀ p (w .nodes) (matched b p) (N .nodes))
 
 -- Each entry of each belief of the answer to an accepted call whose floats are binary32 values lies between 0 and 1, and it is a binary32 value.
-pub beliefs-chances : (s : Settings) (f : Buffers) (b : Bale) → verdict s f b ≡ accepted → SettingsFit s → AllEvidence EvidenceFits (b .markers) → All (λ q. All Chances (q .beliefs)) (answer s b)
-beliefs-chances s f b A t e = in-answer (λ q. All Chances (q .beliefs)) s f b (part-beliefs s f b t e) A
+pub beliefs-in-unit : (s : Settings) (f : Buffers) (b : Bale) → verdict s f b ≡ accepted → SettingsFit s → AllEvidence EvidenceFits (b .markers) → All (λ q. All UnitValues (q .beliefs)) (answer s b)
+beliefs-in-unit s f b A t e = in-answer (λ q. All UnitValues (q .beliefs)) s f b (part-beliefs s f b t e) A

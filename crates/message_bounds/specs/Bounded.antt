@@ -19,7 +19,7 @@ use Rattle.definition.specs.Settings.{Settings}
 use Rattle.definition.specs.FactorGraph.{grade}
 use Rattle.definition.specs.Messages.{initialBelief}
 use Rattle.definition.specs.Refusals.{leastProbability, greatestProbability}
-use Rattle.graph_laws.specs.Claims.{Within}
+use Rattle.claims.specs.Parts.{Within}
 
 -- ---- what lies above a positive number is clear of sign
 pub above-clear : (x : Float) → T (above x) → T (clear x)

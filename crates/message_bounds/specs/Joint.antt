@@ -18,7 +18,7 @@ use Rattle.float_laws.specs.Tight.{shares-one}
 use Rattle.definition.specs.Floats.{_⊗_, c, zeroᶠ, oneᶠ}
 use Rattle.definition.specs.Vectors.{Message, binary, normalize}
 use Rattle.definition.specs.ConvolutionTree.{convolve, countLayer}
-use Rattle.graph_laws.specs.Convolution.{length-convolve, convolve-rows}
+use Rattle.graph_laws.specs.Convolution.{length-convolve, convolve-accumulates}
 use Rattle.graph_laws.specs.Lengths.{Long}
 use Rattle.graph_laws.specs.Sending.{Goods}
 use Rattle.message_bounds.specs.Bounded.{Bounded}
@@ -105,7 +105,7 @@ module _ (n r s : ℕ) (a b : List Float) (A : Joint n r a) (B : Joint n s b) (f
 
   convolve-zeros : Zeros (suc (r + s)) (convolve a b)
   convolve-zeros =
-      subst (Zeros (suc (r + s))) (sym (convolve-rows a b))
+      subst (Zeros (suc (r + s))) (sym (convolve-accumulates a b))
       (live-cpdRows 0 (suc r) (suc s) (suc (r + s)) a b (replicate (length a + length b - 1) zeroᶠ) (A .nice) (B .nice) (A .empty) (B .empty) (omega arith) (zeros-all (suc (r + s)) (length a + length b - 1)))
 
   pub joined : Joint (n + n - 1) (r + s) (normalize (convolve a b))

@@ -21,7 +21,7 @@ pub mod Bounds
 pub mod Answers
 pub mod Beliefs
 pub mod Residuals
-pub mod Outs
-pub mod Caps
+pub mod OutgoingApart
+pub mod AmountBounds
 pub mod Amounts
 pub mod Printed

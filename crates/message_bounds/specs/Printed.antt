@@ -17,39 +17,39 @@ use Rattle.definition.specs.Answer.{Belief, PartAnswer, answer, endingResidual,
 use Rattle.definition.specs.Listing.{hexDigit, hexBefore, hex}
 use Rattle.definition.specs.Refusals.{Buffers, accepted, verdict}
 use Rattle.graph_laws.specs.Lists.{All, All-append, All-mono, All-map-into}
-use Rattle.message_bounds.specs.Accepted.{SettingsFit, EvidenceFits, AllEvidence}
-use Rattle.message_bounds.specs.Beliefs.{Chance, chance-finite, Chances, beliefs-chances}
+use Rattle.claims.specs.Parts.{SettingsFit, EvidenceFits, AllEvidence}
+use Rattle.message_bounds.specs.Beliefs.{UnitValue, unit-finite, UnitValues, beliefs-in-unit}
 use Rattle.message_bounds.specs.Residuals.{Small, small-finite}
 use Rattle.message_bounds.specs.Amounts.{endings-bounded}
 
-pub record Told (x : Float) : Type 0 where
+pub record Printable (x : Float) : Type 0 where
   pub number : T (finite x)
   pub holds : T (fits binary32 x)
   pub back : ofBits binary32 (toBits binary32 x) ≡ x
 
-told : (x : Float) → T (finite x) → T (fits binary32 x) → Told x
-told x f t = record { number = f; holds = t; back = ofBits-toBits binary32 x t }
+printable : (x : Float) → T (finite x) → T (fits binary32 x) → Printable x
+printable x f t = record { number = f; holds = t; back = ofBits-toBits binary32 x t }
 
 -- ---- lists of beliefs, and of parts
-told-beliefs : (bs : List Belief) → All Chances bs → All Told (beliefFloats bs)
+printable-beliefs : (bs : List Belief) → All UnitValues bs → All Printable (beliefFloats bs)
 unfolding beliefFloats
-told-beliefs [] h = tt
-told-beliefs (b ∷ bs) h = All-append Told (b .value) (beliefFloats bs) (All-mono Chance Told (λ x c. told x (chance-finite x c) (c .holds)) (b .value) (h .0)) (told-beliefs bs (h .1))
+printable-beliefs [] h = tt
+printable-beliefs (b ∷ bs) h = All-append Printable (b .value) (beliefFloats bs) (All-mono UnitValue Printable (λ x c. printable x (unit-finite x c) (c .holds)) (b .value) (h .0)) (printable-beliefs bs (h .1))
 
-all-beliefs : (ps : List PartAnswer) → All (λ q. All Chances (q .beliefs)) ps → All Chances (answeredBeliefs ps)
+all-beliefs : (ps : List PartAnswer) → All (λ q. All UnitValues (q .beliefs)) ps → All UnitValues (answeredBeliefs ps)
 unfolding answeredBeliefs
 all-beliefs [] h = tt
-all-beliefs (p ∷ ps) h = All-append Chances (p .beliefs) (answeredBeliefs ps) (h .0) (all-beliefs ps (h .1))
+all-beliefs (p ∷ ps) h = All-append UnitValues (p .beliefs) (answeredBeliefs ps) (h .0) (all-beliefs ps (h .1))
 
 -- ---- the answer
-pub beliefs-told : (s : Settings) (f : Buffers) (b : Bale) → verdict s f b ≡ accepted → SettingsFit s → AllEvidence EvidenceFits (b .markers) → All Told (beliefFloats (answeredBeliefs (answer s b)))
-beliefs-told s f b A t e = told-beliefs (answeredBeliefs (answer s b)) (all-beliefs (answer s b) (beliefs-chances s f b A t e))
+pub beliefs-printable : (s : Settings) (f : Buffers) (b : Bale) → verdict s f b ≡ accepted → SettingsFit s → AllEvidence EvidenceFits (b .markers) → All Printable (beliefFloats (answeredBeliefs (answer s b)))
+beliefs-printable s f b A t e = printable-beliefs (answeredBeliefs (answer s b)) (all-beliefs (answer s b) (beliefs-in-unit s f b A t e))
 
-pub endings-told : (s : Settings) (f : Buffers) (b : Bale) → verdict s f b ≡ accepted → All Told (endingFloats (answer s b))
+pub endings-printable : (s : Settings) (f : Buffers) (b : Bale) → verdict s f b ≡ accepted → All Printable (endingFloats (answer s b))
 unfolding endingFloats
-endings-told s f b A =
-    All-map-into Told (λ (q : PartAnswer). endingResidual (q .ending)) (answer s b)
-    (All-mono (λ q. Small largestFinite (endingResidual (q .ending))) (λ q. Told (endingResidual (q .ending))) (λ q h. told _ (small-finite largestFinite _ tt h) (h .holds)) (answer s b) (endings-bounded s f b A))
+endings-printable s f b A =
+    All-map-into Printable (λ (q : PartAnswer). endingResidual (q .ending)) (answer s b)
+    (All-mono (λ q. Small largestFinite (endingResidual (q .ending))) (λ q. Printable (endingResidual (q .ending))) (λ q h. printable _ (small-finite largestFinite _ tt h) (h .holds)) (answer s b) (endings-bounded s f b A))
 
 -- ---- the digits
 same-digit : (a b : ℕ) → a < 16 → b < 16 → hexDigit a ≡ hexDigit b → a ≡ b

@@ -13,7 +13,7 @@ use Rattle.float_laws.specs.Laws.{add-grows, add-grows-r}
 use Rattle.float_laws.specs.Totals.{AtMost, AllAtMost, atMost-finite, atMost-at, clear-low}
 use Rattle.definition.specs.Floats.{_⊕_, _⊗_, zeroᶠ}
 use Rattle.definition.specs.ConvolutionTree.{convolve}
-use Rattle.graph_laws.specs.Convolution.{addProducts, addAllProducts, length-addProducts, length-addAllProducts, convolve-rows}
+use Rattle.graph_laws.specs.Convolution.{addProducts, addAllProducts, length-addProducts, length-addAllProducts, convolve-accumulates}
 use Rattle.message_bounds.specs.Normalized.{atMost-more, atMost-add, atMost-times}
 
 -- ---- sizes: a row adds at most 1 to each entry
@@ -42,7 +42,7 @@ zeros-atMost (suc n) = (record { held = unfold fits in tt; clear-sign = tt; smal
 
 pub convolve-atMost : (a b : List Float) → length a ≤ 2 ^ 24 → AllAtMost 1 a → AllAtMost 1 b → AllAtMost (length a) (convolve a b)
 convolve-atMost a b h n m =
-    subst (AllAtMost (length a)) (sym (convolve-rows a b))
+    subst (AllAtMost (length a)) (sym (convolve-accumulates a b))
     (subst (λ (z : ℕ). AllAtMost z (addAllProducts 0 a b (replicate (length a + length b - 1) zeroᶠ))) (let e : 0 + length a ≡ length a = omega arith in e)
     (atMost-cpdRows 0 0 a b (replicate (length a + length b - 1) zeroᶠ) (omega arith) n m (zeros-atMost (length a + length b - 1))))
 
@@ -106,5 +106,5 @@ reach-cpdRows K i (x ∷ a) b l (suc u) j h n m f p o g =
 
 pub convolve-reaches : (a b : List Float) (u j : ℕ) → length a ≤ 2 ^ 24 → AllAtMost 1 a → AllAtMost 1 b → u < length a → j < length b → Reached (getD a u nan ⊗ getD b j nan) (convolve a b)
 convolve-reaches a b u j h n m p o =
-    subst (Reached (getD a u nan ⊗ getD b j nan)) (sym (convolve-rows a b))
+    subst (Reached (getD a u nan ⊗ getD b j nan)) (sym (convolve-accumulates a b))
     (reach-cpdRows 0 0 a b (replicate (length a + length b - 1) zeroᶠ) u j (omega arith) n m (zeros-atMost (length a + length b - 1)) p o (omega (arith, length-replicate (length a + length b - 1) zeroᶠ)))

@@ -8,9 +8,10 @@ use Rattle.definition.specs.Run.{State, Event, opened, stateAfter}
 use Rattle.graph_laws.specs.Sending.{Keeps, MessageGraphKept, good-in-force}
 use Rattle.definition.specs.FactorGraph.{Bale, Node}
 use Rattle.definition.specs.Refusals.{Buffers}
-use Rattle.graph_laws.specs.Claims.{Within, IsComponent}
+use Rattle.claims.specs.Parts.{Within, AcceptedPart}
 use Rattle.message_bounds.specs.Bounded.{Bounded, InRange, within-of, ones-bounded, halves-bounded, prior-bounded}
-use Rattle.message_bounds.specs.Accepted.{SettingsFit, settings-in-range}
+use Rattle.claims.specs.Parts.{SettingsFit}
+use Rattle.message_bounds.specs.Accepted.{settings-in-range}
 use Rattle.message_bounds.specs.Variable.{variable-bounded, opening-bounded}
 use Rattle.message_bounds.specs.Factors.{factors-bounded}
 use Rattle.message_bounds.specs.Trees.{trees-bounded}
@@ -32,6 +33,6 @@ pub bounds-in-force : (s : Settings) (t : MessageGraph) → InRange s → Messag
 bounds-in-force s t r N es x d l = within-of (messageAt d (stateAfter s t (opened ∷ es) x .store .msgIn)) (good-in-force Bounded s t (keeps s r) N es x d l)
 
 -- The same of a part of an accepted bale, whose message graph keeps what it should: `Claims`'s Bounds, for settings that binary32 holds.
-pub bounds-of-part : (s : Settings) (f : Buffers) (b : Bale) (n : ℕ) (ns : List Node) → IsComponent s f b n ns → SettingsFit s → MessageGraphKept Bounded s (messageGraphOf b ns)
+pub bounds-of-part : (s : Settings) (f : Buffers) (b : Bale) (n : ℕ) (ns : List Node) → AcceptedPart s f b n ns → SettingsFit s → MessageGraphKept Bounded s (messageGraphOf b ns)
     → (es : List Event) (x : State) (d : ℕ) → d < length (messageGraphOf b ns .directions) → Within (messageAt d (stateAfter s (messageGraphOf b ns) (opened ∷ es) x .store .msgIn))
 bounds-of-part s f b n ns P h N = bounds-in-force s (messageGraphOf b ns) (settings-in-range s f b (P .accepts) h) N

@@ -1,0 +1,3 @@
+-- Of what the claims speak, and the claims: the reader's first file.
+pub mod Parts
+pub mod Claims

@@ -1,0 +1,35 @@
+//! The reference Rust with document 01's stand-ins, behind document 01's call.
+
+pub mod alone;
+pub mod bale;
+pub mod call;
+pub mod faults;
+pub mod generate;
+pub mod generate_files;
+pub mod hooks;
+pub mod limits;
+pub mod log_table;
+pub mod pieces;
+pub mod queue;
+pub mod random;
+pub mod refusal;
+pub mod selfcheck;
+mod selfcheck_calls;
+pub mod shapes;
+pub mod standins;
+pub mod text;
+pub mod tree;
+
+// The patched sources of the checkout; not all of them is called here.
+#[allow(unused)]
+mod array_utils;
+#[allow(unused)]
+mod convolution_tree;
+#[allow(unused)]
+mod factor_graph;
+#[allow(unused)]
+mod messages;
+#[allow(unused)]
+mod node;
+#[allow(unused)]
+mod zero_lookahead_belief_propagation;
