@@ -1,8 +1,9 @@
 -- A loop that replaces each entry x of a slice by g x, in place: after i turns the slice is `mapped g i` of what it was.
-use mathlib.Core.Path.{_≡_, refl, ap, _∙_}
+use mathlib.Core.Path.{_≡_, refl, sym, ap, subst, _∙_}
 use mathlib.Core.List.{List, [], _∷_, map}
-use Prim.Native.Nat.{ℕ, zero, suc, _≤_, _<_}
+use Prim.Native.Nat.{ℕ, zero, suc, _+_, _≤_, _<_}
 use native.Mathlib.Nat.{not-suc-le-zero, le-of-suc-le-suc}
+use native.Mathlib.Numerals.{add-one}
 use lib.ListN.{length, getD, set}
 
 module _ {A : Type 0} where
@@ -37,3 +38,11 @@ module _ {A : Type 0} where
   mapped-all g zero (x ∷ xs) h = absurd (not-suc-le-zero h)
   mapped-all g (suc i) [] h = refl
   mapped-all g (suc i) (x ∷ xs) h = ap (_∷_ (g x)) (mapped-all g i xs (le-of-suc-le-suc h))
+
+  -- the same where the slice a is known to be the mapped one, and v to be what is stored: what a loop's proof cites
+  pub mapped-turn : (g : A → A) (xs a : List A) (i : ℕ) (d v : A) → i < length a → length a ≡ length xs → a ≡ mapped g i xs → v ≡ g (getD a i d) → set a i v ≡ mapped g (i + 1) xs
+  mapped-turn g xs a i d v h l e r =
+      ap (set a i) r
+      ∙ ap (λ (b : List A). set b i (g (getD b i d))) e
+      ∙ mapped-step g i xs d (subst (λ (n : ℕ). i < n) l h)
+      ∙ ap (λ (n : ℕ). mapped g n xs) (sym (add-one i))

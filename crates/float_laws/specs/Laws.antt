@@ -1,18 +1,18 @@
 -- The laws of binary32's operations on finite values, as laws of `le`. Each operation keeps or turns the order in each operand, and no result passes a value that an exact result does not pass.
 --
-use mathlib.Core.Path.{_≡_, refl, sym, ap, _∙_, subst}
-use Prim.Native.Nat.{ℕ, zero, suc, _+_, _*_, _≤_, _<_, _^_}
-use native.Mathlib.Nat.{le-dest, mul-comm, mul-assoc, mul-left-comm, add-mul, mul-add, mul-le-mul-right, mul-one, zero-mul}
+use mathlib.Core.Path.{_≡_, refl, sym, ap, _∙_}
+use Prim.Native.Nat.{ℕ, _+_, _*_, _≤_}
+use native.Mathlib.Nat.{le-dest, mul-comm, mul-assoc, mul-left-comm, add-mul, mul-add, mul-le-mul-right, zero-mul}
 use native.Mathlib.Omega.{arith}
-use mathlib.Core.Bool.{Bool, true, false, not, _&&_}
+use mathlib.Core.Bool.{true, false}
 use lib.IntN.{pos}
 use lib.Dec.{T}
-use lib.Ieee.{Float, nan, inf, fin, Format, binary32, up, down, add, sub, mul, div, neg, le, fits, isNan}
+use lib.Ieee.{Float, nan, inf, fin, binary32, add, sub, mul, div, le, fits}
 use lib.Ieee.Scale.{finite}
-use lib.Ieee.Positive.{den, den-pos, positive, positive-finite, above-of-le}
+use lib.Ieee.Positive.{den, positive, positive-finite, above-of-le}
 pub use Rattle.definition.specs.Floats.{zeroᶠ, oneᶠ}
-use Rattle.float_laws.specs.Order.{plus, minus, Below, Le, le→Le, Le→le, le-trans-at, le-neg, finite-between}
-use Rattle.float_laws.specs.Rounded.{Is, round-le, at-least, at-most}
+use Rattle.float_laws.specs.Order.{plus, minus, Below, Le, le→Le, le-trans-at}
+use Rattle.float_laws.specs.Rounded.{round-le, at-least, at-most}
 use Rattle.float_laws.specs.Ops.{add-is, sub-is, mul-is, mul-comm-at, div-is}
 
 -- ---- fractions
@@ -98,16 +98,17 @@ div-mono x x' y p p' q h =
     round-le binary32 (div binary32 x y) (div binary32 x' y) _ _ _ _ _ _ (div-is binary32 x y p q) (div-is binary32 x' y p' q)
     (div-below (plus x) (minus x) (den x) (plus x') (minus x') (den x') (plus y) (den y) (le→Le x x' p p' h))
 
+-- two divisors above zero, by their parts
+cut : (q d q' d' o o' : ℕ) → o ≡ 0 → o' ≡ 0 → Below q o d q' o' d' → q * d' ≤ q' * d
+cut q d q' d' o o' e e' h =
+    let a : o * d' ≡ 0 = rw e (zero-mul d') in
+    let b : o' * d ≡ 0 = rw e' (zero-mul d) in
+    omega arith
+
 pub div-anti : (x y y' : Float) → T (finite x) → T (positive y) → T (positive y') → T (le zeroᶠ x) → T (le y y') → T (le (div binary32 x y') (div binary32 x y))
 div-anti x y y' p q q' h k =
     round-le binary32 (div binary32 x y') (div binary32 x y) _ _ _ _ _ _ (div-is binary32 x y' p q') (div-is binary32 x y p q)
     (div-above (plus x) (minus x) (den x) (plus y) (den y) (plus y') (den y') (at-least-zero x p h) (cut (plus y) (den y) (plus y') (den y') (minus y) (minus y') (no-minus y q) (no-minus y' q') (le→Le y y' (positive-finite y q) (positive-finite y' q') k)))
-  where
-    cut : (q d q' d' o o' : ℕ) → o ≡ 0 → o' ≡ 0 → Below q o d q' o' d' → q * d' ≤ q' * d
-    cut q d q' d' o o' e e' h =
-        let a : o * d' ≡ 0 = rw e (zero-mul d') in
-        let b : o' * d ≡ 0 = rw e' (zero-mul d) in
-        omega arith
 
 -- ---- results that an exact value bounds
 pub add-grows : (x y : Float) → T (fits binary32 x) → T (finite x) → T (finite y) → T (le zeroᶠ y) → T (le x (add binary32 x y))
@@ -159,12 +160,6 @@ div-rise x y y' p q q' h k =
     round-le binary32 (div binary32 x y) (div binary32 x y') _ _ _ _ _ _ (div-is binary32 x y p q) (div-is binary32 x y' p q')
     (go (plus x) (minus x) (den x) (plus y) (den y) (plus y') (den y') (at-most-zero x p h) (cut (plus y) (den y) (plus y') (den y') (minus y) (minus y') (no-minus y q) (no-minus y' q') (le→Le y y' (positive-finite y q) (positive-finite y' q') k)))
   where
-    cut : (q d q' d' o o' : ℕ) → o ≡ 0 → o' ≡ 0 → Below q o d q' o' d' → q * d' ≤ q' * d
-    cut q d q' d' o o' e e' h =
-        let a : o * d' ≡ 0 = rw e (zero-mul d') in
-        let b : o' * d ≡ 0 = rw e' (zero-mul d) in
-        omega arith
-
     go : (p n c q d q' d' : ℕ) → p ≤ n → q * d' ≤ q' * d → Below (p * d) (n * d) (q * c) (p * d') (n * d') (q' * c)
     go p n c q d q' d' k h =
         simp (add-mul, mul-assoc, mul-comm, mul-left-comm) (omega (arith, simp (add-mul, mul-assoc, mul-comm, mul-left-comm) at (mul-le-mul-right c (turn (q * d') (q' * d) p n h k))))

@@ -14,3 +14,5 @@ pub mod Totals
 pub mod Products
 pub mod Tight
 pub mod Scaled
+pub mod Whole
+pub mod WholePart

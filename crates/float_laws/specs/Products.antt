@@ -1,11 +1,10 @@
 -- Products of two lists, entry by entry, and their sum: for xs whose exact total is at least a half and ys whose entries are each at least B units, the sum is at least B / 4.
 -- And of n entries one is at least their exact total divided by n.
 use mathlib.Core.Path.{_≡_, refl, sym, ap, _∙_, subst}
-use mathlib.Core.Logic.{_⊎_, inl, inr}
 use mathlib.Core.Bool.{Bool, true, false, not}
 use mathlib.Core.List.{List, [], _∷_}
-use Prim.Native.Nat.{ℕ, zero, suc, _+_, _*_, _/_, _^_, _≤_, _<_, zero-le}
-use native.Mathlib.Nat.{le-trans, le-of-eq, le-of-lt, add-zero, zero-add, add-assoc, suc-add, add-suc, mul-comm, mul-assoc, mul-right-comm, mul-left-comm, mul-mul-mul-comm, add-mul, mul-add, mul-one, one-mul, zero-mul, mul-le-mul-left, mul-le-mul-right, le-of-mul-le-mul-right, mul-pos, suc-mul, not-suc-le-zero, le-of-suc-le-suc, suc-inj, suc-ne-zero, zero-div}
+use Prim.Native.Nat.{ℕ, zero, suc, _+_, _*_, _/_, _^_, _≤_, _<_}
+use native.Mathlib.Nat.{le-trans, le-of-eq, le-of-lt, add-zero, zero-add, add-assoc, suc-add, add-suc, mul-comm, mul-assoc, mul-right-comm, mul-mul-mul-comm, add-mul, one-mul, zero-mul, mul-le-mul-left, mul-le-mul-right, le-of-mul-le-mul-right, mul-pos, suc-mul, not-suc-le-zero, le-of-suc-le-suc, suc-inj, suc-ne-zero, zero-div}
 use native.Mathlib.Omega.{arith}
 use lib.Dec.{T, lt→ltb, leb, leb→le, nleb→lt, lit≤}
 use lib.ListN.{length, getD, take, drop}
@@ -17,13 +16,12 @@ use lib.Ieee.Scale.{grid, finite, round-val, round-under, round-same}
 use lib.Ieee.Positive.{num, den, den-pos, positive}
 use Rattle.definition.specs.Floats.{_⊗_}
 use Rattle.definition.specs.Vectors.{zipWith}
-use Rattle.float_laws.specs.Order.{Le, le→Le, le-trans-at, finite-between}
+use Rattle.float_laws.specs.Order.{Le, le→Le, le-trans-at}
 use Rattle.float_laws.specs.Rounded.{clear, round-clear}
-use Rattle.float_laws.specs.Laws.{zeroᶠ, oneᶠ, mul-at-most-left}
-use Rattle.float_laws.specs.Interval.{In}
-use Rattle.float_laws.specs.Sums.{sumFrom, ofNat, whole-finite, one-is}
-use Rattle.float_laws.specs.Error.{val32, units-exact, value-units, grid-near, exactSum, Near}
-use Rattle.float_laws.specs.Totals.{AtMost, AllAtMost, clear-low, atMost-finite, sum-near}
+use Rattle.float_laws.specs.Laws.{mul-at-most-left}
+use Rattle.float_laws.specs.Sums.{ofNat, one-is}
+use Rattle.float_laws.specs.Error.{val32, units-exact, value-units, grid-near, exactSum}
+use Rattle.float_laws.specs.Totals.{AtMost, AllAtMost, clear-low, atMost-finite}
 
 -- ---- a product in units
 mul-clear : (x y : Float) → T (clear x) → T (clear y) → T (finite x) → T (finite y) → mul binary32 x y ≡ round binary32 false (num x * num y) (den x * den y)
@@ -119,39 +117,6 @@ over-from K A P n B (x ∷ xs) (y ∷ ys) k l e f o h =
     subst (λ (z : ℕ). exactSum (A + val32 x) xs * B * 16777215 ≤ exactSum (P + val32 (mul binary32 x y)) (zipMul xs ys) * 2 ^ 149 * 16777216 + z * (2 ^ 149 * 8388608)) (suc-add n (length xs) ∙ sym (add-suc n (length xs)))
     (over-from K (A + val32 x) (P + val32 (mul binary32 x y)) (suc n) B xs ys k (suc-inj l) (e .1) (f .1) (o .1)
     (over-step A P (val32 x) (val32 y) B (val32 (mul binary32 x y)) n (2 ^ 149) (o .0) h g))
-
--- ---- the sum of products
-quarter : (A B P S n U : ℕ) → 0 < U → n ≤ 2 ^ 20 → 8 * n ≤ B → U ≤ 2 * A → Near n P S → A * B * 16777215 ≤ P * U * 16777216 + n * (U * 8388608) → B ≤ 4 * S
-quarter A B P S n U u g h a i k =
-    let m : P * n ≤ P * 2 ^ 20 = mul-le-mul-left P g in
-    let y : 3 * P ≤ 4 * S = omega (arith, i .over, i .under) in
-    let b : U * B ≤ 2 * A * B = mul-le-mul-right B a in
-    let c : 2 * A * B ≡ 2 * (A * B) = mul-assoc 2 A B in
-    let d : n * (U * 8388608) ≡ n * U * 8388608 = sym (mul-assoc n U 8388608) in
-    let z : (B * 16777215) * U ≤ (P * 33554432 + n * 16777216) * U = widen in
-    let w : B * 16777215 ≤ P * 33554432 + n * 16777216 = le-of-mul-le-mul-right z u in
-    omega arith
-  where
-    widen : (B * 16777215) * U ≤ (P * 33554432 + n * 16777216) * U
-    widen =
-        let b : U * B ≤ 2 * A * B = mul-le-mul-right B a in
-        let c : 2 * A * B ≡ 2 * (A * B) = mul-assoc 2 A B in
-        let d : n * (U * 8388608) ≡ n * U * 8388608 = sym (mul-assoc n U 8388608) in
-        let e : B * 16777215 * U ≡ U * B * 16777215 = mul-right-comm B 16777215 U ∙ ap (λ (t : ℕ). t * 16777215) (mul-comm B U) in
-        let f : (P * 33554432 + n * 16777216) * U ≡ P * U * 33554432 + n * U * 16777216 = add-mul (P * 33554432) (n * 16777216) U ∙ ap (λ (t : ℕ). t + n * 16777216 * U) (mul-right-comm P 33554432 U) ∙ ap (λ (t : ℕ). P * U * 33554432 + t) (mul-right-comm n 16777216 U) in
-        omega arith
-
-pub dot-quarter : (K B : ℕ) (xs ys : List Float) → length xs * K ≤ 2 ^ 24 → length xs ≤ 2 ^ 20 → K ≤ 2 ^ 24 → length xs ≡ length ys → AllAtMost K xs → AllAtMost 1 ys → AllOver B ys → 8 * length xs ≤ B → 2 ^ 149 ≤ 2 * exactSum 0 xs
-    → B ≤ 4 * val32 (sumFrom zeroᶠ (zipMul xs ys))
-dot-quarter K B xs ys r g k l e f o h t =
-    let z = zip-length xs ys l in
-    quarter (exactSum 0 xs) B (exactSum 0 (zipMul xs ys)) (val32 (sumFrom zeroᶠ (zipMul xs ys))) (length xs) (2 ^ 149) (pow-pos 149) g h t
-    (subst (λ (n : ℕ). Near n (exactSum 0 (zipMul xs ys)) (val32 (sumFrom zeroᶠ (zipMul xs ys)))) z
-    (sum-near K (zipMul xs ys) (subst (λ (n : ℕ). n * K ≤ 2 ^ 24) (sym z) r) (subst (λ (n : ℕ). n ≤ 2 ^ 22) (sym z) (le-trans g (lit≤ tt))) k (zip-atMost K xs ys k e f)))
-    (subst (λ (n : ℕ). exactSum 0 xs * B * 16777215 ≤ exactSum 0 (zipMul xs ys) * 2 ^ 149 * 16777216 + n * (2 ^ 149 * 8388608)) (zero-add (length xs)) (over-from K 0 0 0 B xs ys k l e f o (nothing B (0 * 2 ^ 149 * 16777216 + 0 * (2 ^ 149 * 8388608)))))
-  where
-    nothing : (v r : ℕ) → 0 * v * 16777215 ≤ r
-    nothing v r = omega arith
 
 -- ---- the largest of n entries is at least their total divided by n
 pub exact-shift : (n : ℕ) (xs : List Float) → exactSum n xs ≡ n + exactSum 0 xs

@@ -1,21 +1,20 @@
 -- Lists of values that are clear of sign, held by binary32 and at most K: their sum is near the exact sum, and their shares of it come to between a half and two, exactly added.
-use mathlib.Core.Path.{_≡_, refl, sym, ap, _∙_, subst}
-use mathlib.Core.Bool.{Bool, true, false, not}
+use mathlib.Core.Path.{_≡_, sym, ap, _∙_, subst}
+use mathlib.Core.Bool.{true, false}
 use mathlib.Core.List.{List, [], _∷_, map}
 use Prim.Native.Nat.{ℕ, zero, suc, _+_, _*_, _^_, _≤_, _<_, zero-le}
-use native.Mathlib.Nat.{le-trans, le-of-eq, add-zero, zero-add, suc-add, add-suc, mul-comm, mul-assoc, mul-right-comm, mul-left-comm, add-mul, mul-add, zero-mul, mul-zero, mul-le-mul-left, mul-le-mul-right, le-of-mul-le-mul-right, mul-pos, suc-mul, eq-of-mul-eq-mul-right, not-suc-le-zero, le-of-suc-le-suc}
+use native.Mathlib.Nat.{le-trans, le-of-eq, add-zero, zero-add, suc-add, add-suc, mul-comm, mul-assoc, mul-right-comm, mul-left-comm, add-mul, zero-mul, mul-le-mul-left, mul-le-mul-right, le-of-mul-le-mul-right, mul-pos, suc-mul, eq-of-mul-eq-mul-right, not-suc-le-zero, le-of-suc-le-suc}
 use native.Mathlib.Omega.{arith}
 use lib.Dec.{T, ltb→lt, lit≤}
-use lib.IntN.{pos}
 use lib.ListN.{length, getD}
 use lib.Pow.{pow-pos}
-use lib.Ieee.{Float, nan, inf, fin, binary32, up, down, round, add, div, neg, le, fits, unlike}
-use lib.Ieee.Fits.{add-fits, div-fits, up-pos, down-pos}
+use lib.Ieee.{Float, nan, inf, fin, binary32, round, add, div, neg, le, fits}
+use lib.Ieee.Fits.{add-fits, div-fits, up-pos}
 use lib.Ieee.Exact.{HasValue}
 use lib.Ieee.Scale.{grid, finite, round-val, round-under, round-same}
 use lib.Ieee.Positive.{num, den, den-pos, positive, positive-finite}
 use Rattle.float_laws.specs.Order.{le-trans-at, le-refl-at, finite-between, finite-number}
-use Rattle.float_laws.specs.Rounded.{clear, round-clear, neg-le-clear, Is}
+use Rattle.float_laws.specs.Rounded.{clear, round-clear, neg-le-clear}
 use Rattle.float_laws.specs.Ops.{div-at}
 use Rattle.float_laws.specs.Laws.{zeroᶠ, oneᶠ}
 use Rattle.float_laws.specs.Interval.{In}
@@ -228,18 +227,3 @@ atMost-map g (x ∷ xs) f = (f 0 (omega arith), atMost-map g xs (λ (i : ℕ) (h
 
 pub shares-atMost : (K : ℕ) (xs : List Float) → length xs * K ≤ 2 ^ 24 → K ≤ 2 ^ 24 → AllAtMost K xs → T (positive (sumFrom zeroᶠ xs)) → AllAtMost 1 (map (λ (x : Float). div binary32 x (sumFrom zeroᶠ xs)) xs)
 shares-atMost K xs h k n q = atMost-map (λ (x : Float). div binary32 x (sumFrom zeroᶠ xs)) xs (λ (i : ℕ) (l : i < length xs). share-atMost K xs i h k n q l)
-
--- ---- a share from below: X at least B units, S at most M, and 4 M ≤ B: at least B / (2 M)
-over-share : (X S G B M U : ℕ) → 0 < U → B ≤ X → S ≤ M * U → 4 * M ≤ B → X * U * 16777216 ≤ G * S * 16777216 + X * U + S * 8388608 → B ≤ 2 * M * G
-over-share X S G B M U u b s m h =
-    let a : G * S ≤ G * (M * U) = mul-le-mul-left G s in
-    let c : G * (M * U) ≡ M * G * U = sym (mul-assoc G M U) ∙ ap (λ (z : ℕ). z * U) (mul-comm G M) in
-    let x : B * U ≤ X * U = mul-le-mul-right U b in
-    let e : B * 16777215 * U ≡ B * U * 16777215 = mul-right-comm B 16777215 U in
-    let f : (M * G * 16777216 + M * 8388608) * U ≡ M * G * U * 16777216 + M * U * 8388608 = add-mul (M * G * 16777216) (M * 8388608) U ∙ ap (λ (z : ℕ). z + M * 8388608 * U) (mul-right-comm (M * G) 16777216 U) ∙ ap (λ (z : ℕ). M * G * U * 16777216 + z) (mul-right-comm M 8388608 U) in
-    let w : B * 16777215 ≤ M * G * 16777216 + M * 8388608 = le-of-mul-le-mul-right {k = U} (omega arith) u in
-    let d : 2 * M * G ≡ 2 * (M * G) = mul-assoc 2 M G in
-    omega arith
-
-pub share-over : (K B M : ℕ) (x s : Float) → K ≤ 2 ^ 24 → AtMost K x → T (fits binary32 s) → T (positive s) → T (finite (div binary32 x s)) → B ≤ val32 x → val32 s ≤ M * 2 ^ 149 → 4 * M ≤ B → B ≤ 2 * M * val32 (div binary32 x s)
-share-over K B M x s k n u q w b m h = over-share (val32 x) (val32 s) (val32 (div binary32 x s)) B M (2 ^ 149) (pow-pos 149) b m h (share-near K x s k n u q w .under)

@@ -17,20 +17,20 @@ use Rattle.float_laws.specs.Patterns.{whole-part-le, whole-part-ge, whole-part-
 use Rattle.float_laws.specs.Table.{upto, upto-at, is-false}
 use Rattle.definition.specs.Floats.{_⊕_, _⊗_, _⊘_, ln2, log2e, minus87, ofNat, ratio, expSeries, expReduced, exp}
 
--- ---- y between -87 and 0
-abbrev halvings : Float → ℕ
+-- ---- y between -87 and 0, and how often the exponential is halved
+abbrev pub halvings : Float → ℕ
 halvings y = toUnsigned 32 (neg y ⊗ log2e)
 
-in-range : (y : Float) → T (le y zeroᶠ) → lt y minus87 ≡ false → In minus87 zeroᶠ y
+pub in-range : (y : Float) → T (le y zeroᶠ) → lt y minus87 ≡ false → In minus87 zeroᶠ y
 in-range y h e = record { low = nlt→le y minus87 (le-number-l y zeroᶠ h) (unfold isNan in tt) (is-false (lt y minus87) e); high = h }
 
 turned : (y : Float) → In minus87 zeroᶠ y → In (fin true 0 (pos 0)) (fin false 87 (pos 0)) (neg y)
 turned y i = record { low = unfold neg in le-neg y zeroᶠ (i .high); high = unfold neg in le-neg minus87 y (i .low) }
 
-scaled-in : (y : Float) → In minus87 zeroᶠ y → In zeroᶠ (fin false 126 (pos 0)) (neg y ⊗ log2e)
+pub scaled-in : (y : Float) → In minus87 zeroᶠ y → In zeroᶠ (fin false 126 (pos 0)) (neg y ⊗ log2e)
 scaled-in y i = mul-in zeroᶠ (fin false 126 (pos 0)) (turned y i) (in-self log2e (unfold isNan in tt)) (unfold mul-test in tt)
 
-halvings-le : (y : Float) → In minus87 zeroᶠ y → halvings y ≤ 126
+pub halvings-le : (y : Float) → In minus87 zeroᶠ y → halvings y ≤ 126
 halvings-le y i = let s = scaled-in y i in whole-part-le 32 126 (neg y ⊗ log2e) (in-finite s tt) (s .high)
 
 -- ---- the steps of the series keep h in [0, H], where one step does

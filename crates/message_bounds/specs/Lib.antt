@@ -2,6 +2,7 @@
 pub mod Bounded
 pub mod Ln
 pub mod Exp
+pub mod LogNormalize
 -- What grades and inputs send, and what factors send.
 pub mod Variable
 pub mod Normalized

@@ -1,7 +1,7 @@
 -- Bounds on the logarithm: at any x that it is a binary32 value lies between -89 and 91, and for x between 1 and 2 between 0 and LN_2. Each rests on one computed test over the table.
 use mathlib.Core.Path.{_≡_, refl, sym, subst}
 use mathlib.Core.Logic.{inl, inr}
-use mathlib.Core.Bool.{Bool, true, false, _&&_, cond}
+use mathlib.Core.Bool.{Bool, true, false, not, _&&_, cond}
 use Prim.Native.Nat.{ℕ, suc, _/_, _%_, _^_, _≤_, _<_}
 use native.Mathlib.Nat.{eq-or-lt-of-le}
 use native.Mathlib.Omega.{arith}
@@ -11,7 +11,7 @@ use lib.Ieee.{Float, fin, binary32, add, sub, mul, div, le, lt, round, ofInt, of
 use lib.Ieee.Fits.{and-l, and-r}
 use lib.Ieee.Scale.{finite}
 use lib.Ieee.Positive.{above-of-le}
-use Rattle.float_laws.specs.Order.{le-trans-at}
+use Rattle.float_laws.specs.Order.{le-trans-at, le-number-r}
 use Rattle.float_laws.specs.Rounded.{clear}
 use Rattle.float_laws.specs.Laws.{zeroᶠ, oneᶠ}
 use Rattle.float_laws.specs.Interval.{In, in-self, in-finite, in-number, add-test, add-in, mul-test, mul-in}
@@ -23,7 +23,7 @@ use Rattle.definition.specs.Floats.{_⊕_, _⊖_, _⊗_, _⊘_, twoᶠ, leastNo
 use Rattle.message_bounds.specs.Bounded.{above-clear}
 
 -- ---- what the logarithm reads: a number that the format holds, with a clear sign
-abbrev normal : Float → Float
+abbrev pub normal : Float → Float
 normal x = cond (le leastNormal x) x leastNormal
 
 module _ (P : Float → Type 0) (x : Float) (p : T (le leastNormal x) → P x) (q : P leastNormal) where
@@ -34,10 +34,13 @@ module _ (P : Float → Type 0) (x : Float) (p : T (le leastNormal x) → P x) (
       go true f = f tt
       go false f = q
 
-normal-clear : (x : Float) → T (clear (normal x))
+pub normal-number : (x : Float) → T (not (isNan (normal x)))
+normal-number x = by-test (λ (y : Float). T (not (isNan y))) x (λ (h : T (le leastNormal x)). le-number-r leastNormal x h) (unfold isNan in tt)
+
+pub normal-clear : (x : Float) → T (clear (normal x))
 normal-clear x = by-test (λ (y : Float). T (clear y)) x (λ (h : T (le leastNormal x)). above-clear x (above-of-le leastNormal x tt h)) tt
 
-normal-fits : (x : Float) → T (fits binary32 x) → T (fits binary32 (normal x))
+pub normal-fits : (x : Float) → T (fits binary32 x) → T (fits binary32 (normal x))
 normal-fits x t = by-test (λ (y : Float). T (fits binary32 y)) x (λ (h : T (le leastNormal x)). t) (unfold fits in tt)
 
 -- ---- the fraction
@@ -108,17 +111,17 @@ scale-in e h =
     let t = upto-at scale-test 256 scales-updateKind e h in
     record { low = and-l (le floor (scale e)) (le (scale e) (fin false 89 (pos 0))) t; high = and-r (le floor (scale e)) (le (scale e) (fin false 89 (pos 0))) t }
 
--- ---- at any parts
+-- ---- by a pattern's exponent e, the upper ten digits i of its fraction and the lower thirteen f
 abbrev pub lnHigh : Float
 lnHigh = fin false 91 (pos 0)
 
 abbrev pub lnLow : Float
 lnLow = floor
 
-abbrev lnParts : ℕ → ℕ → ℕ → Float
+abbrev pub lnParts : ℕ → ℕ → ℕ → Float
 lnParts e i f = scale e ⊕ logTableEntry i ⊕ fraction f ⊗ (logTableEntry (suc i) ⊖ logTableEntry i)
 
-bits-are : (b : ℕ) → lnOfBits b ≡ lnParts (b / 8388608) (b % 8388608 / 8192) (b % 8192)
+pub bits-are : (b : ℕ) → lnOfBits b ≡ lnParts (b / 8388608) (b % 8388608 / 8192) (b % 8192)
 unfolding lnOfBits
 bits-are b = refl
 

@@ -1,94 +1,39 @@
 -- What a grade or an input sends is held: sums of logarithms are finite, and the shares of two finite logarithms lie between 0 and 1.
-use mathlib.Core.Path.{_≡_, refl, sym, subst}
-use mathlib.Core.Bool.{Bool, true, false, not, cond}
+use mathlib.Core.Path.{_≡_, sym, subst}
+use mathlib.Core.Bool.{Bool, true, false}
 use mathlib.Core.List.{List, [], _∷_, map}
 use Prim.Native.Nat.{ℕ, zero, suc, _+_, _*_, _/_, _^_, _≤_}
 use native.Mathlib.Omega.{arith}
 use lib.Dec.{T, leb}
 use lib.IntN.{pos}
 use lib.ListN.{length, take, drop, length-map}
-use lib.Ieee.{Float, nan, inf, fin, binary32, sub, lt, le, fits, isNan, ofInt, neg}
-use lib.Ieee.Fits.{add-fits, mul-fits, cond-fits}
+use lib.Ieee.{Float, fin, binary32, lt, le, fits, ofInt, neg}
+use lib.Ieee.Fits.{mul-fits, cond-fits}
 use lib.Ieee.Scale.{finite}
-use Rattle.float_laws.specs.Order.{le-trans-at, le-refl-at, lt→le, nlt→le, finite-number}
-use Rattle.float_laws.specs.Laws.{zeroᶠ, oneᶠ, sub-at-most-zero}
-use Rattle.float_laws.specs.Ops.{sub-same}
-use Rattle.float_laws.specs.Interval.{In, in-self, in-finite, in-wider, add-test, add-in, sub-test, sub-in}
+use Rattle.float_laws.specs.Order.{le-trans-at}
+use Rattle.float_laws.specs.Laws.{zeroᶠ, oneᶠ}
+use Rattle.float_laws.specs.Interval.{In, in-finite, in-wider, add-test, add-in, sub-test, sub-in}
 use Rattle.float_laws.specs.Sums.{ofNat, minus32, whole-mono, minus-mono, signed-step}
-use Rattle.definition.specs.Floats.{_⊕_, _⊖_, _⊗_, zeroᶠ, oneᶠ, twoᶠ, ln2, maxᶠ, ln, exp, expReduced}
+use Rattle.definition.specs.Floats.{_⊕_, _⊖_, _⊗_, zeroᶠ, oneᶠ, maxᶠ, ln, exp, expReduced}
 use Rattle.definition.specs.Vectors.{Message, entry, binary, sumFrom, productOf, productFrom, avoidUnderflowAll, logNormalize, sumLogBlocks, sumLogsBatched}
 use Rattle.definition.specs.Directions.{messageAt}
 use Rattle.graph_laws.specs.Sending.{Goods}
 use Rattle.definition.specs.Messages.{outMessageLog, outMessageVariable}
 use Rattle.definition.specs.Sweeps.{logTotal, leaveOneOut, openingVariable}
 use Rattle.message_bounds.specs.Bounded.{Bounded, avoidUnderflow-entry}
-use Rattle.message_bounds.specs.Ln.{ln-in, ln-unit-in}
-use Rattle.message_bounds.specs.Exp.{exp-in, exp-zero}
+use Rattle.message_bounds.specs.Ln.{ln-in}
+use Rattle.message_bounds.specs.Exp.{exp-in}
+use Rattle.message_bounds.specs.LogNormalize.{logSum, left-rest, right-rest}
 
--- ---- x - y ≤ 0 for x ≤ 0, an infinity included, and 0 ≤ y
-sub-stays : (x y : Float) → T (le x zeroᶠ) → T (finite y) → T (le zeroᶠ y) → T (le (x ⊖ y) zeroᶠ)
-sub-stays nan y h q k = unfold le in absurd (unfold le in h)
-sub-stays (inf false) y h q k = absurd (unfold le in h)
-sub-stays (inf true) nan h q k = absurd q
-sub-stays (inf true) (inf t) h q k = absurd q
-sub-stays (inf true) (fin t n d) h q k = unfold sub le in tt
-sub-stays (fin s m e) y h q k = sub-at-most-zero (fin s m e) y tt q (le-trans-at (fin s m e) zeroᶠ y h k)
-
--- ---- the larger of two numbers is one of them
-chosen : Float → Float → Float
-chosen a b = cond (lt a b) b a
-
-max-is : (a b : Float) → T (finite a) → maxᶠ a b ≡ chosen a b
-unfolding maxᶠ chosen isNan
-max-is nan b p = absurd p
-max-is (inf s) b p = absurd p
-max-is (fin s m e) b p = refl
-
--- ---- the two differences from the larger
+-- ---- the two shares of two finite logarithms
 module _ (a b : Float) (p : T (finite a)) (q : T (finite b)) where
-  left-below : T (le (a ⊖ chosen a b) zeroᶠ)
-  unfolding chosen
-  left-below = go (lt a b) (λ (t : T (lt a b)). lt→le a b t)
-    where
-      go : (x : Bool) → (T x → T (le a b)) → T (le (a ⊖ cond x b a) zeroᶠ)
-      go true f = sub-at-most-zero a b p q (f tt)
-      go false f = sub-at-most-zero a a p p (le-refl-at a (finite-number a p))
-
-  right-below : T (le (b ⊖ chosen a b) zeroᶠ)
-  unfolding chosen
-  right-below = go (lt a b) (λ (t : T (not (lt a b))). nlt→le a b (finite-number a p) (finite-number b q) t)
-    where
-      go : (x : Bool) → (T (not x) → T (le b a)) → T (le (b ⊖ cond x b a) zeroᶠ)
-      go true f = sub-at-most-zero b b q q (le-refl-at b (finite-number b q))
-      go false f = sub-at-most-zero b a q p (f tt)
-
-  -- one of the two exponentials is 1
-  sum-in : In oneᶠ twoᶠ (exp (a ⊖ chosen a b) ⊕ exp (b ⊖ chosen a b))
-  unfolding chosen
-  sum-in = go (lt a b) left-below right-below
-    where
-      one-is : (x : Float) → T (finite x) → In oneᶠ oneᶠ (exp (x ⊖ x))
-      one-is x r = subst (λ (z : Float). In oneᶠ oneᶠ (exp z)) (sym (sub-same x r)) (subst (λ (z : Float). In oneᶠ oneᶠ z) (sym exp-zero) (in-self oneᶠ (unfold isNan in tt)))
-
-      go : (x : Bool) → T (le (a ⊖ cond x b a) zeroᶠ) → T (le (b ⊖ cond x b a) zeroᶠ) → In oneᶠ twoᶠ (exp (a ⊖ cond x b a) ⊕ exp (b ⊖ cond x b a))
-      go true l r = add-in oneᶠ twoᶠ (exp-in (a ⊖ b) l) (one-is b q) (unfold add-test in tt)
-      go false l r = add-in oneᶠ twoᶠ (one-is a p) (exp-in (b ⊖ a) r) (unfold add-test in tt)
-
-  log-sum-in : In zeroᶠ ln2 (ln (exp (a ⊖ chosen a b) ⊕ exp (b ⊖ chosen a b)))
-  log-sum-in = ln-unit-in (exp (a ⊖ chosen a b) ⊕ exp (b ⊖ chosen a b)) (add-fits binary32 (exp (a ⊖ chosen a b)) (exp (b ⊖ chosen a b))) sum-in
-
-  exp-fits : (y : Float) → T (fits binary32 (exp y))
-  exp-fits y = unfold exp expReduced in cond-fits binary32 (lt y (fin true 87 (pos 0))) zeroᶠ _ (unfold fits in tt) (mul-fits binary32 _ _)
-
   -- Whatever holds of two values between 0 and 1 that binary32 holds, holds of the two shares.
   pub shares : (P : Message → Type 0) → ((x y : Float) → T (fits binary32 x) → In zeroᶠ oneᶠ x → T (fits binary32 y) → In zeroᶠ oneᶠ y → P (binary x y)) → P (logNormalize a b)
   unfolding logNormalize
-  shares P f =
-      subst (λ (m : Float). P (binary (exp (a ⊖ m ⊖ ln (exp (a ⊖ m) ⊕ exp (b ⊖ m)))) (exp (b ⊖ m ⊖ ln (exp (a ⊖ m) ⊕ exp (b ⊖ m)))))) (sym (max-is a b p))
-      (f _ _ (exp-fits _) (share a left-below) (exp-fits _) (share b right-below))
+  shares P f = f _ _ (exp-fits _) (exp-in (a ⊖ maxᶠ a b ⊖ logSum a b) (left-rest a b p q)) (exp-fits _) (exp-in (b ⊖ maxᶠ a b ⊖ logSum a b) (right-rest a b p q))
     where
-      share : (x : Float) → T (le (x ⊖ chosen a b) zeroᶠ) → In zeroᶠ oneᶠ (exp (x ⊖ chosen a b ⊖ ln (exp (a ⊖ chosen a b) ⊕ exp (b ⊖ chosen a b))))
-      share x l = exp-in _ (sub-stays (x ⊖ chosen a b) _ l (in-finite log-sum-in tt) (log-sum-in .low))
+      exp-fits : (y : Float) → T (fits binary32 (exp y))
+      exp-fits y = unfold exp expReduced in cond-fits binary32 (lt y (fin true 87 (pos 0))) zeroᶠ _ (unfold fits in tt) (mul-fits binary32 _ _)
 
   pub normal-bounded : Bounded (avoidUnderflowAll (logNormalize a b))
   unfolding avoidUnderflowAll

@@ -1,0 +1,108 @@
+// Times ln_from_table, exp and log_normalize beside the Rust's own with document 01's stand-ins, in one process, on the same inputs,
+// and checks that every result agrees bit for bit. Run by benchmark/leaves.
+use oracle::{pieces, standins};
+use std::hint::black_box;
+use std::time::Instant;
+
+#[link(name = "bench", kind = "static")]
+unsafe extern "C" {
+    // 0 is ln_from_table, 1 exp, 2 log_normalize
+    fn leaf_all(which: u32, xs: *mut f32, len: usize);
+}
+
+fn rust_ln_all(xs: &mut [f32]) {
+    for x in xs {
+        *x = pieces::ln(*x);
+    }
+}
+
+fn rust_exp_all(xs: &mut [f32]) {
+    for x in xs {
+        *x = standins::exp(*x);
+    }
+}
+
+fn rust_log_normalize_all(xs: &mut [f32]) {
+    for x in xs {
+        let mut m = [*x, 0.0];
+        pieces::log_normalize(&mut m);
+        *x = m[0] - m[1];
+    }
+}
+
+struct Random(u64);
+
+impl Random {
+    fn next(&mut self) -> u32 {
+        self.0 ^= self.0 << 13;
+        self.0 ^= self.0 >> 7;
+        self.0 ^= self.0 << 17;
+        (self.0 >> 32) as u32
+    }
+    // from 0 up to 1
+    fn unit(&mut self) -> f32 {
+        (self.next() >> 8) as f32 / 16777216.0
+    }
+}
+
+fn nanoseconds(inputs: &[f32], f: impl Fn(&mut [f32])) -> (f64, Vec<f32>) {
+    let mut xs = inputs.to_vec();
+    let start = Instant::now();
+    f(black_box(&mut xs));
+    (start.elapsed().as_nanos() as f64 / xs.len() as f64, xs)
+}
+
+fn median(mut v: Vec<f64>) -> f64 {
+    v.sort_by(|a, b| a.total_cmp(b));
+    v[v.len() / 2]
+}
+
+fn compare(
+    name: &str,
+    inputs: &[f32],
+    rounds: usize,
+    proved: impl Fn(&mut [f32]),
+    rust: impl Fn(&mut [f32]),
+) -> bool {
+    let (mut p, mut r) = (vec![], vec![]);
+    let mut differ = 0;
+    for _ in 0..rounds {
+        let (t, a) = nanoseconds(inputs, &proved);
+        let (u, b) = nanoseconds(inputs, &rust);
+        p.push(t);
+        r.push(u);
+        differ = a
+            .iter()
+            .zip(&b)
+            .filter(|(x, y)| x.to_bits() != y.to_bits())
+            .count();
+    }
+    println!(
+        "{name}: {:.2} ns a call, in Rust {:.2} ns; {differ} of {} differ",
+        median(p),
+        median(r),
+        inputs.len()
+    );
+    differ == 0
+}
+
+fn main() {
+    const CALLS: usize = 1_000_000;
+    const ROUNDS: usize = 11;
+    let mut random = Random(0x9e37_79b9_7f4a_7c15);
+    // Any pattern from 0 up to the infinity's, and what counts as the least normal float.
+    let mut positive: Vec<f32> = (0..CALLS)
+        .map(|_| f32::from_bits(random.next() % 0x7f80_0001))
+        .collect();
+    positive[..5].copy_from_slice(&[0.0, -0.0, -1.0, f32::NAN, f32::INFINITY]);
+    let below: Vec<f32> = (0..CALLS).map(|_| -90.0 * random.unit()).collect();
+    let logarithms: Vec<f32> = (0..CALLS).map(|_| 200.0 * random.unit() - 100.0).collect();
+    let leaf =
+        |which: u32| move |xs: &mut [f32]| unsafe { leaf_all(which, xs.as_mut_ptr(), xs.len()) };
+    let alike = compare("ln_from_table", &positive, ROUNDS, leaf(0), rust_ln_all)
+        & compare("exp", &below, ROUNDS, leaf(1), rust_exp_all)
+        & compare("log_normalize", &logarithms, ROUNDS, leaf(2), rust_log_normalize_all);
+    if !alike {
+        std::process::exit(1);
+    }
+}

@@ -1,0 +1,2 @@
+-- What the timed leaves compute.
+pub mod Leaves

@@ -1,0 +1,2 @@
+-- The table as the caller's floats hold it.
+pub mod Rows

@@ -1,0 +1,71 @@
+// `fill_in_factor` of src/node.rs: the noisy-OR table of a marker, in a row of floats that the caller lends.
+ghost use mathlib.Core.Path.{_≡_};
+ghost use Prim.Native.Nat.{max, _*_, _≤_};
+ghost use lib.ListN.{length};
+ghost use Rattle.definition.specs.NoisyOr.{cpdAbsent, cpdAbsentRegularised, cpdRows, cpdTable};
+ghost use Rattle.node.specs.Rows.{flatRows, given, absentAt, rowTotal};
+
+// The Rust's cpd_0: (1 - alpha)^i * (1 - beta).
+fn cpd_absent(alpha: f32, beta: f32, regularised: bool, i: u32) -> f32
+    ensures { λ r. ⌜ r ≡ cpdAbsent (given alpha beta regularised) i ⌝ }
+{
+    array_utils::powi(1.0 - alpha, i) * (1.0 - beta)
+}
+
+// An entry of the Rust's divide_array: max(i, 1).
+fn divide_entry(i: u32) -> u32
+    ensures { λ r. ⌜ r ≡ max i 1 ⌝ }
+{
+    if i == 0 { 1 } else { i }
+}
+
+// The Rust's cpd_regularized_0: cpd_0^i * (1 - beta) / max(i, 1).
+fn cpd_regularised_absent(alpha: f32, beta: f32, regularised: bool, i: u32) -> f32
+    requires { ⌜ i ≤ 129 ⌝ }
+    ensures { λ r. ⌜ r ≡ cpdAbsentRegularised (given alpha beta regularised) i ⌝ }
+{
+    let cpd = cpd_absent(alpha, beta, regularised, i);
+    array_utils::powi(cpd, i) * (1.0 - beta) / (divide_entry(i) as f32)
+}
+
+fn row_absent(alpha: f32, beta: f32, regularised: bool, i: u32) -> f32
+    requires { ⌜ i ≤ 129 ⌝ }
+    ensures { λ r. ⌜ r ≡ absentAt (given alpha beta regularised) i ⌝ }
+{
+    if regularised {
+        cpd_regularised_absent(alpha, beta, regularised, i)
+    } else {
+        cpd_absent(alpha, beta, regularised, i)
+    }
+}
+
+// The rows before they are divided, and the sum of the rows' own sums.
+fn fill_rows(cpd: &mut [f32], degree: u32, alpha: f32, beta: f32, regularised: bool) -> f32
+    requires { ⌜ (degree ≤ 129) × (length (now cpd) ≡ 2 * degree) ⌝ }
+    ensures { λ r. ⌜ (now (cpd .exit) ≡ flatRows (cpdRows (given alpha beta regularised) degree)) × (r ≡ rowTotal (given alpha beta regularised) degree) ⌝ }
+{
+    let mut sum: f32 = 0.0;
+    let mut i: u32 = 0;
+    while i < degree {
+        let absent = row_absent(alpha, beta, regularised, i);
+        let present = 1.0 - absent;
+        let at = 2 * (i as usize);
+        cpd[at] = absent;
+        cpd[at + 1] = present;
+        sum += absent + present;
+        i += 1;
+    }
+    sum
+}
+
+// The caller lends the part for this table alone: two floats for each of at most 129 rows, so that a row's number is a float too.
+pub fn fill_in_factor(cpd: &mut [f32], degree: u32, alpha: f32, beta: f32, regularised: bool)
+    requires { ⌜ (degree ≤ 129) × (length (now cpd) ≡ 2 * degree) ⌝ }
+    ensures { λ _. ⌜ now (cpd .exit) ≡ flatRows (cpdTable (given alpha beta regularised) degree) ⌝ }
+{
+    let sum = fill_rows(cpd, degree, alpha, beta, regularised);
+    array_utils::divide(cpd, sum);
+    if regularised {
+        array_utils::avoid_underflow(cpd);
+    }
+}
