@@ -1,5 +1,5 @@
 -- What the claims speak of: a part of an accepted call, its nodes, positions and messages by number, and floats that binary32 has.
-use Prim.Native.Nat.{ℕ, _+_}
+use Prim.Native.Nat.{ℕ}
 use mathlib.Core.Path.{_≡_}
 use mathlib.Core.Bool.{_&&_}
 use mathlib.Core.Option.{Option, none, some}

@@ -4,14 +4,14 @@ use mathlib.Core.Path.{_≡_, refl}
 use mathlib.Core.Bool.{Bool, true, false}
 use mathlib.Core.List.{List, [], _∷_, map}
 use lib.IntN.{pos, negsuc}
-use lib.ListN.{length, replicate}
-use lib.Ieee.{Float, fin, binary32, round, add, sub, mul, div, neg, lt, le, eq, isNan, ofInt, toUnsigned, toBits, size, ofBits}
-use Rattle.definition.specs.Floats.{maxᶠ, abs, avoidUnderflow, clamp, logTableNumber, logTableEntry, lnOfBits, ln, expSeries, expReduced, exp, powiFrom, powi, zeroᶠ, halfᶠ, oneᶠ, twoᶠ, c, ln2, log2e, ratio}
-use Rattle.definition.specs.Vectors.{sumFrom, sumOf, productFrom, productOf, zipWith, normalize, avoidUnderflowAll, logNormalize, sumLogBlocks, sumLogsBatched, binary}
+use lib.ListN.{length}
+use lib.Ieee.{Float, fin, round, add, sub, mul, div, neg, lt, le, eq, isNan, ofInt, toUnsigned, toBits, size, ofBits}
+use Rattle.definition.specs.Floats.{maxᶠ, abs, avoidUnderflow, clamp, logTableNumber, logTableEntry, lnOfBits, ln, expSeries, expReduced, exp, powiFrom, powi, zeroᶠ, halfᶠ, oneᶠ, twoᶠ, ln2, ratio}
+use Rattle.definition.specs.Vectors.{sumOf, productFrom, productOf, normalize, avoidUnderflowAll, logNormalize, sumLogBlocks, sumLogsBatched, binary}
 use Rattle.definition.specs.Settings.{Settings}
 use Rattle.definition.specs.NoisyOr.{cpdAbsent, cpdAbsentRegularised, cpdRows, cpdTable}
 use Rattle.definition.specs.ConvolutionTree.{convolve, countLayer, messageUp, likelihoodsBelow, treeLayers, logLength, firstLayer, treeMessages}
-use Rattle.definition.specs.FactorGraph.{builtGraph, Pair, Bale, Node}
+use Rattle.definition.specs.FactorGraph.{builtGraph, Bale, Node}
 use Rattle.definition.specs.Components.{walk, components, componentsOf, subgraph, subgraphOf}
 use Rattle.definition.specs.Directions.{edgeAt, directionTo, directionsTo, firstsIncoming, directionFrom, messageNodesFrom, messageGraph, messageGraphOf, setMessages, copyNode, copyNodes}
 use Rattle.definition.specs.Messages.{initialBelief, outMessageLog, outMessageVariable, outMessageFactor, outMessageFactorTo, outMessageBy, outMessage, absLogRatio, pairResidual, vectorResidual, residual, equalMessages, messageChange, changeExceeds, needsRebuild, treeOutMessages, outMessagesTree, outMessages}

@@ -1,7 +1,7 @@
 -- The noisy-OR table of a factor: the conditional probabilities of its marker, by how many of its grades are present
 -- (`fill_in_factor` of src/node.rs; document 01, 'src/node.rs').
 use Prim.Native.Nat.{ℕ, max}
-use mathlib.Core.Bool.{Bool, cond}
+use mathlib.Core.Bool.{cond}
 use mathlib.Core.List.{List, map}
 use lib.Ieee.{Float}
 use Rattle.definition.specs.Settings.{Settings}

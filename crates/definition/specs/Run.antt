@@ -1,6 +1,6 @@
 -- The run of a component: the opening, five sweeps, then scheduled steps (`zero_lookahead_bp` of src/messages.rs; document 01, 'How a part ends').
 use Prim.Native.Nat.{ℕ, zero, suc, _-_}
-use mathlib.Core.Bool.{Bool, true, false, cond}
+use mathlib.Core.Bool.{true, false, cond}
 use mathlib.Core.Option.{Option, none, some}
 use mathlib.Core.List.{List, [], _∷_, _++_, map}
 use lib.Ieee.{Float, lt}

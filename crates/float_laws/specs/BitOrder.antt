@@ -8,12 +8,12 @@ use native.Mathlib.Omega.{arith}
 use mathlib.Core.Bool.{Bool, true, false, not, cond}
 use lib.Dec.{T, leb, eqb, leb→le, nleb→lt, eqb→eq, not-T}
 use lib.Pow.{pow-pos, pow-mono}
-use lib.Ieee.{Float, nan, inf, fin, binary32, odd, ofFields, ofBits, toBits, le, lt, fits}
+use lib.Ieee.{Float, nan, inf, binary32, odd, ofFields, ofBits, toBits, le, lt, fits}
 use lib.Ieee.Bits.{is-false, cond-no, ofBits-toBits}
 use lib.Ieee.Exact.{HasValue, odd-sign}
 use lib.Ieee.Order.{le-of-values}
 use lib.Ieee.Scale.{finite}
-use Rattle.float_laws.specs.Order.{le-trans-at, le-lt-trans, lt→nle}
+use Rattle.float_laws.specs.Order.{le-trans-at, lt→nle}
 use Rattle.float_laws.specs.Rounded.{clear}
 use Rattle.float_laws.specs.Patterns.{clear-below}
 

@@ -2,22 +2,22 @@
 -- So a sum of n entries is within n parts in 2 ^ 23 of the exact sum.
 use mathlib.Core.Path.{_≡_, refl, sym, ap, _∙_, subst}
 use mathlib.Core.Logic.{_⊎_, inl, inr}
-use mathlib.Core.Bool.{Bool, true, false, not, cond}
+use mathlib.Core.Bool.{Bool, true, false, not}
 use mathlib.Core.List.{List, [], _∷_}
-use Prim.Native.Nat.{ℕ, zero, suc, _+_, _-_, _*_, _/_, _%_, _^_, _≤_, _<_, zero-le, compare, Ordering, Ordering·lt, Ordering·eq, Ordering·gt}
-use native.Mathlib.Nat.{le-trans, le-of-eq, lt-of-lt-of-le, mod-lt, div-add-mod', mul-comm, mul-assoc, mul-left-comm, mul-right-comm, mul-one, add-mul, mul-le-mul-right, le-of-mul-le-mul-right, lt-of-mul-lt-mul-right, mul-le-mul-left, mul-lt-mul-of-pos-right, mul-pos, mul-div-cancel, zero-lt-suc, suc-mul, mul-suc, zero-mul, eq-zero-or-pos, le-div-iff-mul-le, pow-zero}
+use Prim.Native.Nat.{ℕ, zero, suc, _+_, _-_, _*_, _/_, _%_, _^_, _≤_, _<_, compare, Ordering, Ordering·lt, Ordering·eq, Ordering·gt}
+use native.Mathlib.Nat.{mod-lt, div-add-mod', mul-comm, mul-assoc, mul-right-comm, mul-one, add-mul, mul-le-mul-right, le-of-mul-le-mul-right, lt-of-mul-lt-mul-right, mul-le-mul-left, mul-pos, mul-div-cancel, suc-mul, mul-suc, zero-mul, le-div-iff-mul-le}
 use native.Mathlib.Omega.{arith}
 use lib.IntN.{ℤ, pos, negsuc}
-use lib.Dec.{T, leb, isLe, isEq, eqb, leb→le, nleb→lt, eqb→eq, eqb-refl, lit<}
+use lib.Dec.{T, leb, isLe, isEq, eqb, leb→le, nleb→lt, eqb→eq, eqb-refl}
 use lib.Arith.{lt-of-le-ne}
 use lib.Pow.{pow-add, pow-pos}
-use lib.Ieee.{Float, nan, inf, fin, binary32, up, down, size, nearest, round, add, le, fits}
+use lib.Ieee.{Float, nan, inf, fin, binary32, up, down, size, nearest, round, add, fits}
 use lib.Ieee.Digits.{size-reaches}
 use lib.Ieee.Fits.{down-pos}
 use lib.Ieee.Exact.{HasValue}
 use lib.Ieee.Nearest.{closest}
 use lib.Ieee.Order.{drop, kept}
-use lib.Ieee.Scale.{grid, overflow, finite, round-val, round-under, round-same}
+use lib.Ieee.Scale.{grid, finite, round-val, round-under, round-same}
 use lib.Ieee.Positive.{num, den, den-pos}
 use Rattle.float_laws.specs.Rounded.{clear, parts, pow-anti}
 

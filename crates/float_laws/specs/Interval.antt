@@ -1,16 +1,15 @@
 -- Interval arithmetic with ends that antt computes: from x in [xl, xh] and y in [yl, yh], the result of an operation is in [L, H] where one computed test on the ends passes.
 -- Write `add-in L H i j (unfold add-test in tt)`, with closed ends.
-use mathlib.Core.Path.{_≡_, refl, sym, ap, _∙_, subst}
-use mathlib.Core.Logic.{_⊎_, inl, inr, ⊎-elim}
+use mathlib.Core.Logic.{⊎-elim}
 use mathlib.Core.Bool.{Bool, true, false, not, _&&_, cond}
 use mathlib.Core.List.{List, [], _∷_}
-use lib.Dec.{T, not-T, T-not}
-use lib.Ieee.{Float, nan, inf, fin, Format, binary32, add, sub, mul, div, neg, le, lt, fits, isNan}
-use lib.Ieee.Fits.{and-l, and-r, and-i}
+use lib.Dec.{T}
+use lib.Ieee.{Float, binary32, add, sub, mul, div, le, lt, isNan}
+use lib.Ieee.Fits.{and-l, and-r}
 use lib.Ieee.Scale.{finite}
-use lib.Ieee.Positive.{positive, positive-finite, between}
-use Rattle.float_laws.specs.Order.{le-trans-at, le-refl-at, le-neg, le-total-at, lt→le, nlt→le, finite-between, finite-number, le-number-l, le-number-r}
-use Rattle.float_laws.specs.Laws.{zeroᶠ, oneᶠ, add-mono, sub-mono, mul-mono-l, mul-mono-r, mul-anti-l, mul-anti-r, div-mono, div-anti, div-rise}
+use lib.Ieee.Positive.{positive, between}
+use Rattle.float_laws.specs.Order.{le-trans-at, le-refl-at, le-total-at, nlt→le, finite-between, finite-number, le-number-l, le-number-r}
+use Rattle.float_laws.specs.Laws.{zeroᶠ, add-mono, sub-mono, mul-mono-l, mul-mono-r, mul-anti-l, mul-anti-r, div-mono, div-anti, div-rise}
 
 pub record In (lo hi z : Float) : Type 0 where
   pub low : T (le lo z)

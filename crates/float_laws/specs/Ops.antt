@@ -1,16 +1,16 @@
 -- Each operation on finite values as a signed fraction, rounded once (`Rounded.Is`).
-use mathlib.Core.Path.{_≡_, refl, sym, ap, _∙_, subst}
+use mathlib.Core.Path.{_≡_, refl, sym, ap, _∙_}
 use mathlib.Core.Logic.{_⊎_, inl, inr}
 use Prim.Native.Nat.{ℕ, zero, suc, _+_, _-_, _*_, _≤_, _<_}
-use native.Mathlib.Nat.{mul-comm, mul-pos, zero-mul, mul-zero, zero-add, add-zero, sub-self, zero-lt-suc}
+use native.Mathlib.Nat.{mul-comm, mul-pos, zero-mul, sub-self, zero-lt-suc}
 use native.Mathlib.Omega.{arith}
-use mathlib.Core.Bool.{Bool, true, false, not, _&&_, Bool·beq, cond}
-use lib.IntN.{ℤ, pos, negsuc}
-use lib.Dec.{T, ltb, eqb, ltb→lt, nltb→le, eqb·suc-zero}
-use lib.Ieee.{Float, nan, inf, fin, Format, binary32, up, down, round, unlike, sum, add, sub, mul, div, neg}
+use mathlib.Core.Bool.{Bool, true, false, not, cond}
+use lib.IntN.{ℤ, pos}
+use lib.Dec.{T, ltb, ltb→lt, nltb→le, eqb·suc-zero}
+use lib.Ieee.{Float, nan, inf, fin, Format, binary32, up, down, round, unlike, sum, add, sub, mul, div}
 use lib.Ieee.Fits.{up-pos, down-pos}
 use lib.Ieee.Scale.{finite, round-same}
-use lib.Ieee.Positive.{den, den-pos, positive}
+use lib.Ieee.Positive.{den, positive}
 use Rattle.float_laws.specs.Order.{plus, minus}
 use Rattle.float_laws.specs.Rounded.{Is}
 

@@ -1,15 +1,14 @@
 -- The order of the floats, signed: a finite x is (plus x - minus x) / den x, and `le` is the order of these fractions. `le` is transitive, and reflexive but at `nan`.
 -- What lies between two finite values is finite.
-use mathlib.Core.Path.{_≡_, refl, sym, subst}
+use mathlib.Core.Path.{_≡_, refl, sym}
 use mathlib.Core.Logic.{_⊎_, inl, inr, ⊎-map, ⊎-elim}
-use Prim.Native.Nat.{ℕ, zero, suc, _+_, _*_, _≤_, _<_, zero-le}
-use native.Mathlib.Nat.{le-trans, le-of-eq, le-of-lt, lt-of-not-le, eq-or-lt-of-le, eq-zero-or-pos, mul-comm, mul-assoc, mul-left-comm, add-mul, mul-add, mul-le-mul-right, le-of-mul-le-mul-right, zero-mul}
+use Prim.Native.Nat.{ℕ, _+_, _*_, _≤_, _<_}
+use native.Mathlib.Nat.{le-of-eq, le-of-lt, eq-or-lt-of-le, eq-zero-or-pos, mul-comm, mul-assoc, mul-left-comm, add-mul, mul-le-mul-right, le-of-mul-le-mul-right}
 use native.Mathlib.Omega.{arith}
 use mathlib.Core.Bool.{Bool, true, false, not, _&&_, _||_}
-use lib.IntN.{ℤ, pos}
-use lib.Dec.{T, T-not, leb, ltb, leb→le, nleb→lt, nltb→le, eqb, eqb→eq, ltb→lt, lt→ltb, eqb-refl}
-use lib.Ieee.{Float, nan, inf, fin, up, down, neg, lt, eq, le, isNan, below, level}
-use lib.Ieee.Fits.{down-pos, and-l, and-r, and-i, eq→eqb}
+use lib.Dec.{T, T-not, leb, ltb, leb→le, nleb→lt, nltb→le, eqb, eqb→eq, ltb→lt, lt→ltb}
+use lib.Ieee.{Float, nan, inf, fin, up, down, neg, lt, eq, le, isNan}
+use lib.Ieee.Fits.{and-l, and-r, and-i, eq→eqb}
 use lib.Ieee.Scale.{finite}
 use lib.Ieee.Positive.{den, den-pos}
 

@@ -1,18 +1,17 @@
 -- The bit pattern of a value whose sign is clear is below 2 ^ 31, and the whole part of a value is at most a whole number that the value is at most.
-use mathlib.Core.Path.{_≡_, refl, sym, ap, _∙_, subst}
-use mathlib.Core.Bool.{Bool, true, false, not, cond}
-use Prim.Native.Nat.{ℕ, zero, suc, _+_, _-_, _*_, _/_, _%_, _^_, _≤_, _<_, min}
+use mathlib.Core.Path.{_≡_, refl, sym, subst}
+use mathlib.Core.Bool.{Bool, true, false, cond}
+use Prim.Native.Nat.{ℕ, zero, suc, _+_, _-_, _*_, _/_, _%_, _^_, _≤_, _<_}
 use native.Mathlib.Nat.{le-trans, div-lt-iff-lt-mul, lt-of-not-le, lt-of-le-of-lt, min-le-left, le-min, le-div-iff-mul-le, suc-mul, mul-one}
 use native.Mathlib.Omega.{arith}
-use lib.IntN.{ℤ, pos, negsuc}
-use lib.Dec.{T, T-not, leb, ltb, eqb, ltb→lt, leb→le, nleb→lt, le→leb}
-use lib.Ieee.{Float, nan, inf, fin, Format, binary32, prec, low, hid, ones, top, up, down, odd, le, lt, fits, isNan, ofFields, ofBits, toBits, toUnsigned}
+use lib.IntN.{pos}
+use lib.Dec.{T, leb, eqb, ltb→lt, le→leb}
+use lib.Ieee.{Float, nan, inf, fin, Format, binary32, prec, low, hid, ones, top, up, down, odd, le, lt, fits, ofFields, ofBits, toBits, toUnsigned}
 use lib.Ieee.Bits.{ofBits-toBits}
 use lib.Ieee.Fits.{down-pos}
 use lib.Ieee.Scale.{finite}
-use Rattle.float_laws.specs.Order.{plus, minus, le→Le}
+use Rattle.float_laws.specs.Order.{le→Le}
 use Rattle.float_laws.specs.Rounded.{clear}
-use Rattle.float_laws.specs.Laws.{zeroᶠ}
 
 odd-set : (d q k l : ℕ) → T (clear (odd d true q k l)) → ⊥
 unfolding odd

@@ -2,21 +2,21 @@
 -- and no rounding passes a value that the format holds.
 use mathlib.Core.Path.{_≡_, refl, sym, ap, _∙_, subst}
 use mathlib.Core.Logic.{_⊎_, inl, inr}
-use Prim.Native.Nat.{ℕ, zero, suc, _+_, _-_, _*_, _^_, _%_, _≤_, _<_, zero-le}
-use native.Mathlib.Nat.{le-trans, le-of-eq, le-of-lt, lt-of-lt-of-le, lt-of-not-le, not-le-of-lt, eq-zero-or-pos, mul-comm, mul-assoc, mul-left-comm, mul-right-comm, mul-one, one-mul, add-mul, mul-le-mul-right, mul-lt-mul-of-pos-right, le-of-mul-le-mul-right, lt-of-mul-lt-mul-right, mul-pos, zero-mul, zero-add, zero-lt-suc}
+use Prim.Native.Nat.{ℕ, zero, suc, _+_, _-_, _*_, _^_, _%_, _≤_, _<_}
+use native.Mathlib.Nat.{lt-of-not-le, not-le-of-lt, mul-comm, mul-assoc, mul-right-comm, mul-one, add-mul, mul-lt-mul-of-pos-right, lt-of-mul-lt-mul-right, mul-pos, zero-mul, zero-add, zero-lt-suc}
 use native.Mathlib.Omega.{arith}
-use mathlib.Core.Bool.{Bool, true, false, not, _&&_, _||_, cond, true≢false}
+use mathlib.Core.Bool.{Bool, true, false, not, _&&_, cond, true≢false}
 use lib.IntN.{ℤ, pos, negsuc}
-use lib.Pow.{pow-add, pow-pos, pow-mono, pow-lt}
-use lib.Dec.{T, ltb, leb, eqb, eqb→eq, ltb→lt, leb→le, lt→ltb}
-use lib.Ieee.{Float, nan, inf, fin, Format, prec, emax, low, up, down, size, odd, units, round, neg, le, fits, isNan}
+use lib.Pow.{pow-add, pow-pos, pow-lt}
+use lib.Dec.{T, ltb, leb, eqb, ltb→lt, leb→le}
+use lib.Ieee.{Float, nan, inf, fin, Format, prec, emax, low, up, down, odd, units, round, neg, le, fits}
 use lib.Ieee.Digits.{back}
-use lib.Ieee.Fits.{core, round-is, up-pos, down-pos, and-l, and-r}
+use lib.Ieee.Fits.{round-is, down-pos, and-l, and-r}
 use lib.Ieee.Exact.{HasValue, round-exact}
 use lib.Ieee.Order.{round-mono}
 use lib.Ieee.Scale.{finite}
-use lib.Ieee.Positive.{den, den-pos}
-use Rattle.float_laws.specs.Order.{plus, minus, Below, Le, Le→le, le→Le, le-neg, le-trans-at, below-trans}
+use lib.Ieee.Positive.{den}
+use Rattle.float_laws.specs.Order.{plus, minus, Below, Le→le, le-neg, le-trans-at}
 
 -- ---- the two signs
 odd-neg : (d q k l : ℕ) → odd d true q k l ≡ neg (odd d false q k l)

@@ -1,16 +1,15 @@
 -- Sums of floats from the left, and lists whose entries lie in an interval.
 use mathlib.Core.Path.{_≡_, refl, sym, ap, _∙_, subst}
-use mathlib.Core.Logic.{_⊎_, inl, inr, ⊎-elim}
-use mathlib.Core.Bool.{Bool, true, false, not, _&&_, cond, true≢false}
-use mathlib.Core.List.{List, [], _∷_, _++_, map}
+use mathlib.Core.Bool.{true, false, true≢false}
+use mathlib.Core.List.{List, [], _∷_, _++_}
 use Prim.Native.Nat.{ℕ, zero, suc, _+_, _*_, _^_, _≤_, _<_}
-use native.Mathlib.Nat.{not-suc-le-zero, le-of-suc-le-suc, add-suc, suc-add, add-zero, zero-add, le-trans, mul-one, one-mul, zero-mul, suc-mul, add-mul, mul-right-comm, mul-comm, mul-assoc, mul-left-comm, zero-lt-suc}
+use native.Mathlib.Nat.{not-suc-le-zero, le-of-suc-le-suc, add-zero, zero-add, mul-one, one-mul, zero-mul, suc-mul, add-mul, mul-right-comm, mul-comm, mul-assoc, mul-left-comm, zero-lt-suc}
 use native.Mathlib.Omega.{arith}
 use lib.IntN.{pos}
 use lib.Dec.{T}
 use lib.ListN.{length, getD, take}
 use lib.Seq.{take-suc}
-use lib.Ieee.{Float, nan, inf, fin, Format, binary32, prec, up, down, round, add, div, neg, le, fits, isNan, ofInt}
+use lib.Ieee.{Float, nan, inf, fin, binary32, up, add, div, neg, le, fits, ofInt}
 use lib.Ieee.Fits.{add-fits, neg-fits, ofInt-fits}
 use lib.Ieee.Order.{le-of-values}
 use lib.Ieee.Exact.{HasValue}
@@ -19,11 +18,11 @@ use lib.Ieee.Scale.{finite}
 use lib.Ieee.Positive.{positive, positive-finite, den}
 pub use Rattle.definition.specs.Floats.{ofNat}
 pub use Rattle.definition.specs.Vectors.{sumFrom}
-use Rattle.float_laws.specs.Order.{plus, minus, Below, Le→le, le-neg, le-trans-at, le-refl-at, finite-between, finite-number}
+use Rattle.float_laws.specs.Order.{plus, minus, Below, le-neg, le-trans-at, le-refl-at, finite-between, finite-number}
 use Rattle.float_laws.specs.Rounded.{at-most, at-least}
 use Rattle.float_laws.specs.Ops.{add-is}
 use Rattle.float_laws.specs.Laws.{zeroᶠ, oneᶠ, positive-of-le, add-mono, add-grows, add-grows-r, div-at-most-one, div-at-least-zero}
-use Rattle.float_laws.specs.Interval.{In, in-finite}
+use Rattle.float_laws.specs.Interval.{In}
 
 pub sum-snoc : (a : Float) (xs : List Float) (x : Float) → sumFrom a (xs ++ (x ∷ [])) ≡ add binary32 (sumFrom a xs) x
 sum-snoc a [] x = refl

@@ -1,25 +1,21 @@
 -- Tighter bounds for lists of at most 1,024 entries: shares total within one part in 64 of 1; a sum of products of such shares with values of at least B units is at least 7 B / 8, and at most 9 / 8;
 -- and a share of a sum of n of those is at least 7 B / (10 n). These are the steps of a convolution tree.
 use mathlib.Core.Path.{_≡_, refl, sym, ap, _∙_, subst}
-use mathlib.Core.Bool.{Bool, true, false, not}
 use mathlib.Core.List.{List, [], _∷_, map}
-use Prim.Native.Nat.{ℕ, zero, suc, _+_, _*_, _^_, _≤_, _<_, zero-le}
-use native.Mathlib.Nat.{le-trans, le-of-eq, add-zero, zero-add, suc-add, add-suc, mul-comm, mul-assoc, mul-right-comm, mul-left-comm, add-mul, zero-mul, one-mul, mul-one, mul-le-mul-left, mul-le-mul-right, le-of-mul-le-mul-right, mul-pos, suc-mul, suc-ne-zero, suc-inj}
+use Prim.Native.Nat.{ℕ, suc, _+_, _*_, _^_, _≤_, _<_, zero-le}
+use native.Mathlib.Nat.{le-trans, le-of-eq, add-zero, zero-add, suc-add, add-suc, mul-comm, mul-assoc, mul-right-comm, mul-left-comm, add-mul, mul-le-mul-left, mul-le-mul-right, le-of-mul-le-mul-right, suc-mul}
 use native.Mathlib.Omega.{arith}
 use lib.Dec.{T, lit≤}
 use lib.ListN.{length, getD}
 use lib.Pow.{pow-pos}
-use lib.Ieee.{Float, nan, binary32, add, mul, div, le, fits}
-use lib.Ieee.Fits.{mul-fits}
+use lib.Ieee.{Float, nan, binary32, mul, div, le, fits}
 use lib.Ieee.Scale.{finite}
 use lib.Ieee.Positive.{positive}
 use Rattle.float_laws.specs.Order.{finite-between}
-use Rattle.float_laws.specs.Rounded.{clear}
 use Rattle.float_laws.specs.Laws.{zeroᶠ, oneᶠ, mul-at-most-left}
-use Rattle.float_laws.specs.Interval.{In}
-use Rattle.float_laws.specs.Sums.{sumFrom, ofNat, one-is}
+use Rattle.float_laws.specs.Sums.{sumFrom, one-is}
 use Rattle.float_laws.specs.Error.{val32, exactSum, Near}
-use Rattle.float_laws.specs.Totals.{AtMost, AllAtMost, clear-low, atMost-finite, atMost-at, sum-near, share-near, share-at, sum-fits, val-pos, fine-of, total-from}
+use Rattle.float_laws.specs.Totals.{AtMost, AllAtMost, clear-low, atMost-finite, sum-near, share-near, share-at, sum-fits, val-pos, fine-of, total-from}
 use Rattle.float_laws.specs.Products.{zipMul, zip-atMost, zip-length, atMost-mul, AllOver, over-from, le→units}
 
 -- ---- n ≤ 1024: the sum is within one part in 4096 of the exact one

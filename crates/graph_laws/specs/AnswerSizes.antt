@@ -1,12 +1,10 @@
 -- Counts of an accepted bale's answer: each part that is answered has a grade, no grade is answered twice, and every number that is answered fits 32 bits.
-use Prim.Native.Nat.{ℕ, zero, suc, _+_, _-_, _*_, _^_, _≤_, _<_}
+use Prim.Native.Nat.{ℕ, suc, _+_, _-_, _*_, _^_, _≤_, _<_}
 use native.Mathlib.Omega.{arith}
 use mathlib.Core.Path.{_≡_, refl, sym, ap, _∙_, subst}
 use mathlib.Core.Bool.{Bool, true, false, cond, _||_, _&&_, false≢true}
-use mathlib.Core.Option.{Option, none, some}
 use mathlib.Core.List.{List, [], _∷_, _++_, map, map-append}
 use lib.Dec.{T, eqb, ltb, ltb→lt}
-use lib.Ieee.{lt}
 use lib.ListN.{length, length-map, length-append}
 use Rattle.graph_laws.specs.Events.{run-follows}
 use Rattle.graph_laws.specs.Bools.{eqb-sound, eqb-same, and-left, and-right, no-ltb}
@@ -16,8 +14,7 @@ use Rattle.definition.specs.Settings.{Settings}
 use Rattle.definition.specs.FactorGraph.{Bale, Node, gradeNode, factorNode, inputNode, treeNode, eqNode, Edge, markerNumbers, gradesOf, hasTree, builtNodes, builtEdges, builtGraph}
 use Rattle.definition.specs.Components.{otherEnd, incidentEdges, neighbours, SubgraphNode, Subgraph, subgraph, subgraphOf, componentsOf}
 use Rattle.definition.specs.Directions.{MessageNode, MessageGraph, messageNodesFrom, messageGraph, messageGraphOf}
-use Rattle.definition.specs.Run.{State, scheduledStep, beginLoop, applyEvent, stateAfter, openingAndSweeps, Ending, limit, settled, empty, Ended, loop, run}
-use Rattle.definition.specs.Priorities.{Highest, highestPriority}
+use Rattle.definition.specs.Run.{beginLoop, Ending, limit, settled, empty, loop, run}
 use Rattle.definition.specs.Sweeps.{opening}
 use Rattle.definition.specs.Answer.{Belief, marginal, beliefsAmong, PartAnswer, partAnswer, answersOf, answersFrom, answer, endingNumber, answeredBeliefs, beliefNumbers, beliefFloats, endingNumbers, endingFloats}
 use Rattle.definition.specs.Refusals.{Buffers, accepted, verdict}

@@ -10,7 +10,7 @@ use lib.Dec.{T, eqb, ltb, ltb→lt, nltb→le}
 use Rattle.graph_laws.specs.Bools.{not-true, or-left, or-right, and-left, and-right}
 use Rattle.definition.specs.Lists.{filter, concat, mem, indexOf}
 use Rattle.definition.specs.Settings.{Settings}
-use Rattle.definition.specs.FactorGraph.{Bale, Node, eqNode, Edge, eqEdge, builtGraph, markerNumbers, gradesOf, markerEdges, builtEdges, Kind, grade, kindOf}
+use Rattle.definition.specs.FactorGraph.{Bale, Node, eqNode, Edge, eqEdge, builtGraph, markerNumbers, gradesOf, markerEdges, builtEdges, Kind, kindOf}
 use Rattle.definition.specs.Components.{Subgraph, SubgraphNode, SubgraphEdge, isIncident, otherEnd, incidentEdges, componentEdges, subgraphNode, subgraphEdge, subgraph, subgraphOf}
 use Rattle.definition.specs.Directions.{Direction, MessageNode, MessageGraph, noEdge, edgeAt, messageGraph, messageGraphOf, nodeAt, directionAt}
 use Rattle.definition.specs.Refusals.{Buffers}

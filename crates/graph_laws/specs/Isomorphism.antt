@@ -2,7 +2,7 @@
 use mathlib.Core.Path.{_≡_, refl, sym, ap, _∙_}
 use mathlib.Core.Bool.{Bool, true, false, cond}
 use mathlib.Core.List.{List, [], _∷_, _++_, map, map-append}
-use Prim.Native.Nat.{ℕ, _+_}
+use Prim.Native.Nat.{ℕ}
 use Rattle.definition.specs.Lists.{concat, mem, indexOf}
 use Rattle.graph_laws.specs.Lists.{All, All-append, All-map-into, All-mono}
 use Rattle.graph_laws.specs.Walk.{mem-map, index-map}

@@ -2,7 +2,7 @@
 use mathlib.Core.Path.{_≡_, refl, sym, ap, _∙_, subst}
 use mathlib.Core.Bool.{Bool, true, false, cond, not, _||_, _&&_, true≢false, false≢true}
 use mathlib.Core.List.{List, [], _∷_, _++_, map}
-use Prim.Native.Nat.{ℕ, suc, _+_, _*_, _≤_, _<_}
+use Prim.Native.Nat.{ℕ, suc, _*_, _≤_, _<_}
 use native.Mathlib.Omega.{arith}
 use lib.IntN.{ℤ, pos, negsuc}
 use lib.Ieee.{Float, nan, inf, fin, lt, eq, le, up, down}
@@ -19,7 +19,7 @@ use Rattle.definition.specs.Components.{isIncident, otherEnd, incidentEdges, su
 use Rattle.definition.specs.Directions.{messageGraphOf, directionAt, messageAt}
 use Rattle.definition.specs.Messages.{initialBelief}
 use Rattle.definition.specs.Run.{State, Event, opened, stateAfter}
-use Rattle.definition.specs.Refusals.{Buffers, leastEvidence, outside, badEvidence, accepted, verdict}
+use Rattle.definition.specs.Refusals.{Buffers, leastEvidence, outside, badEvidence}
 use Rattle.graph_laws.specs.Lists.{All, All-in, All-at, All-mono, All-every, All-map-into, All-map-from}
 use Rattle.graph_laws.specs.Ranks.{NoDup, upto-below, All-concat-into}
 use Rattle.graph_laws.specs.Components.{Holds, Both}

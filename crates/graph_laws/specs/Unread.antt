@@ -1,15 +1,13 @@
 -- A sweep does not read the set `fresh` (`msg_in_new`): it writes a message to every direction. So what the opening leaves there is of no account.
-use Prim.Native.Nat.{ℕ, zero, suc, _+_, _-_, _^_, _≤_, _<_}
+use Prim.Native.Nat.{ℕ, zero, suc, _+_, _^_, _≤_, _<_}
 use native.Mathlib.Omega.{arith}
-use native.Mathlib.Nat.{pow-suc}
 use mathlib.Core.Path.{_≡_, refl, sym, ap, _∙_, subst}
 use mathlib.Core.Bool.{Bool, true, false, _||_, true≢false}
 use mathlib.Core.Option.{some}
 use mathlib.Core.List.{List, [], _∷_, map}
 use lib.Ieee.{Float}
-use lib.Ieee.Digits.{size-lt}
 use lib.Dec.{eqb}
-use lib.ListN.{length, getD, drop, set, length-set, length-map, length-append, length-replicate, length-take, length-drop}
+use lib.ListN.{length, getD, drop, set, length-set, length-map, length-take, length-drop}
 use lib.Seq.{getD-set-same, getD-set-other, ext-getD}
 use Rattle.graph_laws.specs.Convolution.{logLength-least}
 use Rattle.graph_laws.specs.Lengths.{length-countLayer, double, length-firstLayer}

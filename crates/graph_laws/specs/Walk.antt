@@ -2,7 +2,7 @@
 use mathlib.Core.Path.{_≡_, refl, sym, ap, _∙_}
 use mathlib.Core.Bool.{Bool, true, false, cond}
 use mathlib.Core.List.{List, [], _∷_, _++_, map, map-append}
-use Prim.Native.Nat.{ℕ, zero, suc, _+_}
+use Prim.Native.Nat.{ℕ, zero, suc}
 use Rattle.definition.specs.Lists.{mem, indexOf}
 use Rattle.definition.specs.Components.{Search, isVisited, visit, visitAll, popNode, walkStep, walk}
 use Rattle.graph_laws.specs.Lists.{All, All-append}

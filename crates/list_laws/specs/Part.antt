@@ -1,15 +1,14 @@
 -- A part of a list replaced by what a function makes of it: what a lent part of a slice leaves in the whole.
 --
-use mathlib.Core.Path.{_≡_, refl, sym, ap, subst, _∙_}
-use mathlib.Core.List.{List, [], _∷_, _++_, map, append-assoc}
-use Prim.Native.Nat.{ℕ, zero, suc, _+_, _-_, _≤_, _<_}
-use native.Mathlib.Nat.{add-zero, zero-add, suc-add, not-suc-le-zero, le-of-suc-le-suc, le-trans}
-use native.Mathlib.Numerals.{add-one}
+use mathlib.Core.Path.{_≡_, sym, ap, _∙_}
+use mathlib.Core.List.{List, [], _∷_, _++_}
+use Prim.Native.Nat.{ℕ, zero, suc, _+_, _≤_, _<_}
+use native.Mathlib.Nat.{zero-add, suc-add}
 use native.Mathlib.Omega.{arith}
 use lib.ListN.{length, getD, take, drop, set, length-take, length-drop, length-append, take-append-drop}
 use mathlib.Core.Logic.{_⊎_, ⊎-elim}
 use lib.Seq.{ext-getD, getD-take, getD-drop, length-take-le, set-append-left, paste, paste-zero, paste-suc}
-use Rattle.list_laws.specs.Write.{write, length-write, write-ext, write-below, write-above}
+use Rattle.list_laws.specs.Write.{write, length-write, write-below, write-above}
 
 module _ {A : Type 0} where
   -- the m elements from index a on, replaced by g of them

@@ -1,15 +1,14 @@
 -- A range of a list written in order: the definition, and its laws over any element type.
 --
-use mathlib.Core.Path.{_≡_, refl, sym, ap, subst, _∙_}
+use mathlib.Core.Path.{_≡_, refl, ap, _∙_}
 use mathlib.Core.Logic.{⊎-elim}
-use mathlib.Core.List.{List, [], _∷_, _++_}
-use Prim.Native.Nat.{ℕ, zero, suc, _+_, _-_, _≤_, _<_}
-use native.Mathlib.Nat.{add-assoc, eq-or-lt-of-le, le-of-suc-le-suc, add-zero, add-suc, not-suc-le-zero, le-trans, le-of-lt, lt-irrefl}
+use mathlib.Core.List.{List}
+use Prim.Native.Nat.{ℕ, zero, suc, _+_, _≤_, _<_}
+use native.Mathlib.Nat.{add-assoc, eq-or-lt-of-le, le-of-suc-le-suc, add-zero, add-suc, not-suc-le-zero}
 use native.Mathlib.Numerals.{add-one}
 use native.Mathlib.Omega.{arith}
-use lib.ListN.{length, getD, take, drop, set, length-set, length-take, length-drop, length-append}
-use lib.Seq.{getD-set-same, getD-set-other, ext-getD, getD-take, getD-drop, length-take-le, getD-append-add}
-use lib.ListN.{List·getD-append}
+use lib.ListN.{length, getD, set, length-set}
+use lib.Seq.{getD-set-same, getD-set-other}
 
 module _ {A : Type 0} where
   -- f k stored at from + k, for k = 0 up to n - 1, in that order

@@ -1,8 +1,8 @@
 -- No node of a part sends twice along one direction.
-use mathlib.Core.Path.{_≡_, refl, sym, ap, _∙_, subst}
+use mathlib.Core.Path.{_≡_, refl, sym, subst}
 use mathlib.Core.Bool.{Bool, true, false}
 use mathlib.Core.List.{List, [], _∷_, _++_}
-use Prim.Native.Nat.{ℕ, zero, suc, _≤_, _<_}
+use Prim.Native.Nat.{ℕ, zero, suc, _<_}
 use native.Mathlib.Omega.{arith}
 use lib.Dec.{T, eqb, ltb, ltb→lt}
 use lib.ListN.{length, getD, take, drop, List·getD-eq-default}
@@ -13,7 +13,7 @@ use Rattle.definition.specs.Components.{subgraphOf}
 use Rattle.definition.specs.Directions.{MessageNode, MessageGraph, messageGraphOf, nodeAt, noMessageNode}
 use Rattle.definition.specs.Run.{otherOutgoing}
 use Rattle.definition.specs.Refusals.{Buffers}
-use Rattle.claims.specs.Parts.{AcceptedPart, degreeOf}
+use Rattle.claims.specs.Parts.{AcceptedPart}
 use Rattle.graph_laws.specs.Bools.{not-true, no-ltb, eqb-sound, eqb-same, or-no, no-or}
 use Rattle.graph_laws.specs.Ranks.{NoDup, index-lt, getD-index}
 use Rattle.graph_laws.specs.Consistency.{Consistent, NodeFits, consistent, out-once}

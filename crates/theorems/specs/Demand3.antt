@@ -1,6 +1,5 @@
 -- Demand 3, whole: the claims of `claims`, proved.
 use mathlib.Core.Path.{_∙_}
-use Rattle.definition.specs.Components.{subgraphOf}
 use Rattle.definition.specs.Directions.{messageGraphOf}
 use Rattle.claims.specs.Claims.{BoundedMessages, RunOfEvents, Locality}
 use Rattle.graph_laws.specs.Consistency.{consistent}

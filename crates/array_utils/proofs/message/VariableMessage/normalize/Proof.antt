@@ -1,7 +1,7 @@
 -- `array_utils::message::VariableMessage::normalize` meets its contract.
 use mathlib.Core.Path.{refl}
 use lib.Ieee.{ofBits}
-use Rattle.definition.specs.Vectors.{normalize, sumOf, sumFrom}
+use Rattle.definition.specs.Vectors.{normalize, sumOf}
 use Rattle.array_utils.proofs.message.VariableMessage.normalize.Statement.{statement}
 use Rattle.array_utils.proofs.message.VariableMessage.normalize.Tie as tie
 
