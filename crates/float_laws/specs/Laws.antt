@@ -1,5 +1,4 @@
 -- The laws of binary32's operations on finite values, as laws of `le`. Each operation keeps or turns the order in each operand, and no result passes a value that an exact result does not pass.
---
 use mathlib.Core.Path.{_≡_, refl, sym, ap, _∙_}
 use Prim.Native.Nat.{ℕ, _+_, _*_, _≤_}
 use native.Mathlib.Nat.{le-dest, mul-comm, mul-assoc, mul-left-comm, add-mul, mul-add, mul-le-mul-right, zero-mul}

@@ -1,5 +1,4 @@
 -- A rule of a table, proved at all of its entries by one test that antt computes, one entry after the other.
---
 use mathlib.Core.Path.{_≡_, _∙_, subst, sym, ap}
 use mathlib.Core.Logic.{_⊎_, inl, inr}
 use mathlib.Core.Bool.{Bool, true, false, not, cond}

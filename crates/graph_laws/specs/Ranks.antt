@@ -1,4 +1,4 @@
--- Index, membership, `upto` and `joined`: what the embedding of a part needs of lists.
+-- Index, membership, `upto` and `concat`: what the renumbering of a part needs of lists.
 use mathlib.Core.Path.{_≡_, refl, sym, ap, _∙_, subst}
 use mathlib.Core.Bool.{Bool, true, false, cond, _||_, _&&_, true≢false, false≢true}
 use mathlib.Core.List.{List, [], _∷_, _++_, map, map-map, map-append}

@@ -1,4 +1,4 @@
--- The embedding: the nodes and edges of a part, renamed, are the nodes and edges of the part entered by itself.
+-- The renumbering: the nodes and edges of a part, by their new numbers, are the nodes and edges of the part entered by itself.
 use mathlib.Core.Path.{_≡_, refl, sym, ap, _∙_}
 use mathlib.Core.Bool.{Bool, true, false, cond, _||_, _&&_, true≢false}
 use mathlib.Core.List.{List, [], _∷_, _++_, map, map-map, map-append}

@@ -1,4 +1,4 @@
--- A sweep does not read the set `fresh` (`msg_in_new`): it writes a message to every direction. So what the opening leaves there is of no account.
+-- A sweep does not read `msg_in_new`: it writes a message to every direction. So what the opening leaves there is of no account.
 use Prim.Native.Nat.{ℕ, zero, suc, _+_, _^_, _≤_, _<_}
 use native.Mathlib.Omega.{arith}
 use mathlib.Core.Path.{_≡_, refl, sym, ap, _∙_, subst}

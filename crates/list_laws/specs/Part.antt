@@ -1,5 +1,4 @@
 -- A part of a list replaced by what a function makes of it: what a lent part of a slice leaves in the whole.
---
 use mathlib.Core.Path.{_≡_, sym, ap, _∙_}
 use mathlib.Core.List.{List, [], _∷_, _++_}
 use Prim.Native.Nat.{ℕ, zero, suc, _+_, _≤_, _<_}

@@ -1,5 +1,4 @@
 -- A list put into another from an index on, and its laws: what a function that writes one range of a slice ensures.
---
 use mathlib.Core.Path.{_≡_, refl, sym, ap, _∙_}
 use mathlib.Core.Logic.{_⊎_, ⊎-elim, by-cases}
 use mathlib.Core.List.{List, [], _++_}

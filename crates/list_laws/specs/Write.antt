@@ -1,5 +1,4 @@
 -- A range of a list written in order: the definition, and its laws over any element type.
---
 use mathlib.Core.Path.{_≡_, refl, ap, _∙_}
 use mathlib.Core.Logic.{⊎-elim}
 use mathlib.Core.List.{List}

@@ -1,4 +1,4 @@
--- What an accepted call's checks 3 and 5 give, where its floats are held by binary32: settings in range, and evidence that is held.
+-- What an accepted call's checks 3 and 5 give, where its floats are binary32 values: settings in range, and evidence in bounds.
 use mathlib.Core.Path.{_≡_, refl}
 use mathlib.Core.Bool.{Bool, true, false, not, _&&_, _||_}
 use mathlib.Core.Option.{Option, none, some}

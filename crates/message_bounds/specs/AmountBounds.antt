@@ -1,5 +1,4 @@
 -- One amount after k steps: at most 128 for each step and one more, and never above 2 ^ 31. A residual more keeps it so, for 2 ^ 31 + 128 rounds to 2 ^ 31.
---
 use mathlib.Core.Path.{_≡_, sym, subst}
 use mathlib.Core.Bool.{Bool, true, false, not}
 use Prim.Native.Nat.{ℕ, suc, _+_, _*_, _≤_, _<_, _^_, min}

@@ -1,5 +1,5 @@
 -- Amounts: after any events that begin with the opening, each pending and each waiting amount is at most 128 for each step taken and one more, and never above
--- 2 ^ 31, with a clear sign, and it is a binary32 value: a step adds at most one residual to an amount. So every ending's residual is finite.
+-- 2 ^ 31, with a clear sign, and a binary32 value: a step adds at most one residual to an amount. So every ending's residual is finite.
 use mathlib.Core.Path.{_≡_, refl, sym, ap, subst, _∙_}
 use mathlib.Core.Bool.{Bool, true, false, cond, true≢false}
 use mathlib.Core.Option.{Option, none, some}

@@ -1,4 +1,4 @@
--- A message whose entries binary32 holds, each between c and 1; and settings in their ranges.
+-- A message whose entries are binary32 values, each between c and 1; and settings in their ranges.
 use mathlib.Core.Path.{subst}
 use mathlib.Core.Bool.{Bool, true, false, cond}
 use mathlib.Core.List.{List, [], _∷_, map}

@@ -1,4 +1,4 @@
--- Bounds on the logarithm: at any x that it is a binary32 value lies between -89 and 91, and for x between 1 and 2 between 0 and LN_2. Each rests on one computed test over the table.
+-- Bounds on the logarithm: at any binary32 value it lies between -89 and 91, and for x between 1 and 2 between 0 and LN_2. Each rests on one computed test over the table.
 use mathlib.Core.Path.{_≡_, refl, sym, subst}
 use mathlib.Core.Logic.{inl, inr}
 use mathlib.Core.Bool.{Bool, true, false, not, _&&_, cond}

@@ -1,4 +1,4 @@
--- Nice values: powers, differences from 1, sums, quotients; and `normalise`, whose entries are shares of their sum.
+-- Values of clear sign that are at most K: powers, differences from 1, sums, quotients; and `normalize`, whose entries are shares of their sum.
 use mathlib.Core.Path.{_≡_, refl, sym, ap, subst}
 use mathlib.Core.Bool.{Bool, true, false, not, cond}
 use mathlib.Core.List.{List, [], _∷_, map}

@@ -1,5 +1,4 @@
--- Every float that an accepted call answers is finite, and it is a binary32 value: so its bits, and the eight digits that are printed of it, determine it.
---
+-- Every float that an accepted call answers is a finite binary32 value: so its bits, and the eight digits that are printed of it, determine it.
 use mathlib.Core.Path.{_≡_, sym, ap, _∙_}
 use mathlib.Core.Bool.{Bool, true, false, not, cond}
 use mathlib.Core.List.{List, [], _∷_}

@@ -1,5 +1,4 @@
--- Residuals: each is at most 128, with a clear sign, and it is a binary32 value. The logarithm is within 91 of 0 whatever it is taken of, so only the lengths matter.
---
+-- Residuals: each is at most 128, with a clear sign, and a binary32 value. The logarithm is within 91 of 0 whatever it is taken of, so only the lengths matter.
 use mathlib.Core.Path.{_≡_, refl, sym, ap, subst}
 use mathlib.Core.Bool.{Bool, true, false, not, cond}
 use mathlib.Core.List.{List, [], _∷_}
@@ -25,7 +24,7 @@ use Rattle.graph_laws.specs.Invariant.{Holding}
 use Rattle.graph_laws.specs.MessageLengths.{AsLong}
 use Rattle.message_bounds.specs.Ln.{lnLow, lnHigh, ln-in}
 
--- ---- a value with a clear sign that is at most so much, and it is a binary32 value
+-- ---- a value with a clear sign that is at most so much, and a binary32 value
 pub record Small (most x : Float) : Type 0 where
   pub holds : T (fits binary32 x)
   pub clear-sign : T (clear x)

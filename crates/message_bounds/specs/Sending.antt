@@ -1,4 +1,4 @@
--- The seven facts about floats that `Kept` of the definition asks for, and with them the bounds of every message in force.
+-- The seven facts about floats that `Keeps` of graph_laws asks for, and with them the bounds of every message in force.
 use Prim.Native.Nat.{ℕ, _<_}
 use mathlib.Core.List.{List, _∷_}
 use lib.ListN.{length}
