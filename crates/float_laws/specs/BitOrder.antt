@@ -90,13 +90,13 @@ bits-mono b c h k l =
     lower x y p q = omega arith
 
 -- ---- below the normal patterns, and from the infinity's on
-is-clear : (b : ℕ) → b < 2147483648 → ofBits binary32 b ≡ ofFields binary32 false (b / 8388608) (b % 8388608)
+pub is-clear : (b : ℕ) → b < 2147483648 → ofBits binary32 b ≡ ofFields binary32 false (b / 8388608) (b % 8388608)
 is-clear b h =
     ofBits-is b
     ∙ ap (λ (s : Bool). ofFields binary32 s (b % 2147483648 / 8388608) (b % 8388608)) (is-false (leb 2147483648 b) (not-T (leb 2147483648 b) (λ (u : T (leb 2147483648 b)). not-le-of-lt h (leb→le 2147483648 b u))))
     ∙ ap (λ (x : ℕ). ofFields binary32 false (x / 8388608) (b % 8388608)) (mod-eq-of-lt h)
 
-zero-field : (t : ℕ) → HasValue (ofFields binary32 false 0 t) false (t * 2 ^ 0) (2 ^ 149)
+pub zero-field : (t : ℕ) → HasValue (ofFields binary32 false 0 t) false (t * 2 ^ 0) (2 ^ 149)
 unfolding ofFields
 zero-field t = odd-sign 24 false t 0 149
 

@@ -16,3 +16,4 @@ pub mod Tight
 pub mod Scaled
 pub mod Whole
 pub mod WholePart
+pub mod BitsLess

@@ -1,0 +1,16 @@
+pub mod Layout
+pub mod LayoutLists
+pub mod LayoutOffsets
+pub mod LayoutCut
+pub mod LayoutPairs
+pub mod LayoutPuts
+pub mod LayoutWrite
+pub mod LayoutOrder
+pub mod LayoutCopy
+pub mod LayoutRows
+pub mod LayoutWords
+pub mod LayoutPending
+pub mod LayoutKinds
+pub mod LayoutSweeps
+pub mod LayoutApart
+pub mod State
