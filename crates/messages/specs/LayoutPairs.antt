@@ -1,7 +1,7 @@
 -- Messages of two floats each: a row taken two by two.
 use Prim.Native.Nat.{ℕ, zero, suc, _+_, _*_, _≤_, _<_}
 use native.Mathlib.Omega.{arith}
-use mathlib.Core.Path.{_≡_, refl, ap, _∙_}
+use mathlib.Core.Path.{_≡_, refl, sym, ap, _∙_}
 use mathlib.Core.List.{List, [], _∷_, map}
 use lib.Ieee.{Float}
 use lib.ListN.{length, getD, take, drop}
@@ -10,14 +10,10 @@ use Rattle.definition.specs.Directions.{Direction, noDirection, MessageNode, me
 use Rattle.list_laws.specs.Part.{getD-region, length-region}
 use Rattle.array_utils.specs.Columns.{Pairs, absents, presents}
 use Rattle.messages.specs.Layout.{cut, width}
+pub use Rattle.messages.specs.Pairs.{pairs}
+use Rattle.messages.specs.Pairs.{absents-pairs, presents-pairs}
 use Rattle.messages.specs.LayoutOffsets.{longAt, TwoLong, span-two}
 use Rattle.messages.specs.LayoutCut.{directionsIn, rowIn, messagesIn-cut, length-rowIn}
-
--- a row taken two by two; a float that has no partner is left out
-abbrev pub pairs : List Float → List Message
-pairs [] = []
-pairs (a ∷ []) = []
-pairs (a ∷ b ∷ r) = (a ∷ b ∷ []) ∷ pairs r
 
 pub pairs-two : (r : List Float) → Pairs (pairs r)
 pairs-two [] = tt
@@ -25,14 +21,10 @@ pairs-two (a ∷ []) = tt
 pairs-two (a ∷ b ∷ r) = (refl, pairs-two r)
 
 pub pairs-absent : (r : List Float) → map (entry 0) (pairs r) ≡ absents r
-pairs-absent [] = refl
-pairs-absent (a ∷ []) = refl
-pairs-absent (a ∷ b ∷ r) = ap {B = List Float} (λ l. a ∷ l) (pairs-absent r)
+pairs-absent r = sym (absents-pairs r)
 
 pub pairs-present : (r : List Float) → map (entry 1) (pairs r) ≡ presents r
-pairs-present [] = refl
-pairs-present (a ∷ []) = refl
-pairs-present (a ∷ b ∷ r) = ap {B = List Float} (λ l. b ∷ l) (pairs-present r)
+pairs-present r = sym (presents-pairs r)
 
 pub cut-pairs : (ds : List Direction) (r : List Float) → length r ≡ 2 * length ds → ((d : ℕ) → d < length ds → longAt ds d ≡ 2) → cut ds r ≡ pairs r
 cut-pairs [] [] h b = refl

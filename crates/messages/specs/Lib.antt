@@ -1,4 +1,6 @@
+-- How message graphs and message sets stand in lent words and floats.
 pub mod Layout
+pub mod Pairs
 pub mod LayoutLists
 pub mod LayoutOffsets
 pub mod LayoutCut
@@ -14,3 +16,9 @@ pub mod LayoutKinds
 pub mod LayoutSweeps
 pub mod LayoutApart
 pub mod State
+-- Laws of the single messages, one file for each subject.
+pub mod Logarithms
+pub mod Variable
+pub mod Factor
+pub mod Residual
+pub mod Rebuild

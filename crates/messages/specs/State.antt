@@ -1,16 +1,67 @@
 -- What the lent floats and words of a component mean: every content is some state of the definition's schedule.
-use Prim.Native.Nat.{ℕ, zero, suc}
+use Prim.Native.Nat.{ℕ, zero, suc, _+_, _*_, _≤_, _<_}
+use mathlib.Core.Path.{_≡_}
+use mathlib.Core.Bool.{Bool}
 use mathlib.Core.Option.{Option, none, some}
-use mathlib.Core.List.{List, [], _∷_, map}
+use mathlib.Core.List.{List, [], _∷_, _++_, map}
 use lib.Ieee.{Float}
-use lib.ListN.{length}
+use lib.ListN.{length, getD, take, replicate}
+use Rattle.definition.specs.Floats.{zeroᶠ}
+use Rattle.definition.specs.Settings.{Settings}
+use Rattle.definition.specs.FactorGraph.{Kind, grade, factor, input, tree}
+use Rattle.definition.specs.Components.{Subgraph}
 use Rattle.definition.specs.Lists.{range}
 use Rattle.definition.specs.Vectors.{Message}
 use Rattle.definition.specs.Directions.{MessageNode, MessageGraph, nodeAt, messagesIn}
 use Rattle.definition.specs.Messages.{LastBuild}
 use Rattle.definition.specs.Sweeps.{Store}
 use Rattle.definition.specs.Run.{neighbourNumbers}
-use Rattle.messages.specs.Layout.{cut}
+use Rattle.graph_laws.specs.Consistency.{Consistent}
+use Rattle.graph_laws.specs.Sending.{MessageGraphKept}
+use Rattle.messages.specs.Layout.{cut, width, GraphRows}
+use Rattle.messages.specs.LayoutOrder.{InOrder}
+
+-- ---- the component that the words stand for
+
+-- the settings as they come, one by one
+abbrev pub settingsWith : Float → Float → Float → Bool → Float → ℕ → Settings
+settingsWith alpha beta prior regularised tolerance limit =
+    record { alpha = alpha; beta = beta; prior = prior; regularised = regularised; tolerance = tolerance; loopLimit = limit }
+
+-- an input's evidence stands at its label in the lent evidence
+abbrev pub HasEvidence : Kind → ℕ → List Float → Type 0
+HasEvidence grade m es = Unit {0}
+HasEvidence (factor d) m es = Unit {0}
+HasEvidence (input e) m es = (2 * m + 1 < length es) × (e .absent ≡ getD es (2 * m) zeroᶠ) × (e .present ≡ getD es (2 * m + 1) zeroᶠ)
+HasEvidence (tree d) m es = Unit {0}
+
+-- The rows of words are those of a message graph t that keeps what the run needs, whatever the floats are.
+pub record PartRows (s : Settings) (t : MessageGraph) (kinds firsts starts outs offsets labels : List ℕ) (evidence : List Float) : Type 0 where
+  pub rows : GraphRows t kinds firsts starts outs offsets
+  pub subgraph : Subgraph
+  pub consistent : Consistent subgraph t
+  pub in-order : InOrder t
+  pub kept : MessageGraphKept (λ m. Unit {0}) s t
+  pub labels-long : length labels ≡ length (t .nodes)
+  pub inputs : (n : ℕ) → n < length (t .nodes) → HasEvidence (nodeAt t n .kind) (getD labels n 0) evidence
+
+-- ---- its floats: msg_in, msg_in_new, msg_in_log, the trees' last builds, the pending residuals, and behind them scratch
+
+-- what a tree of 128 grades takes, its messages and their scratch
+abbrev pub scratchFloats : ℕ
+scratchFloats = 1664
+
+abbrev pub partFloats : List Float → List Float → List Float → List Float → List Float → List Float → List Float
+partFloats rIn rNew rLog rBuild pending rest = rIn ++ (rNew ++ (rLog ++ (rBuild ++ (pending ++ rest))))
+
+pub record FloatRows (t : MessageGraph) (rIn rNew rLog rBuild pending rest : List Float) : Type 0 where
+  pub in-long : length rIn ≡ width (t .directions)
+  pub new-long : length rNew ≡ width (t .directions)
+  pub log-long : length rLog ≡ width (t .directions)
+  pub build-long : length rBuild ≡ width (t .directions)
+  pub pending-long : length pending ≡ length (t .directions)
+  pub room : scratchFloats ≤ length rest
+  pub zeros : take scratchFloats rest ≡ replicate scratchFloats zeroᶠ
 
 -- ---- the trees' last builds: a row of floats like a message set, and a flag for each node
 

@@ -1,0 +1,19 @@
+// The leaves of src/messages.rs of the Rust: each message, residual, test and belief from slices and values alone.
+mod belief;
+mod factor;
+mod opening;
+mod rebuild;
+mod residuals;
+mod rows;
+mod variable;
+
+pub use belief::marginal;
+pub use factor::out_message_factor;
+pub use factor::out_message_factor_from;
+pub use opening::opening_variable;
+pub use rebuild::needs_rebuild;
+pub use residuals::residual;
+pub use residuals::residual_binary;
+pub use residuals::residual_vector;
+pub use variable::out_message_variable;
+pub use variable::out_messages_variable;
