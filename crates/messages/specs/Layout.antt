@@ -7,8 +7,8 @@ use lib.Ieee.{Float}
 use lib.ListN.{length, take, drop}
 use Rattle.definition.specs.Lists.{concat}
 use Rattle.definition.specs.Vectors.{Message}
-use Rattle.definition.specs.FactorGraph.{Kind, grade, factor, input, tree}
 use Rattle.definition.specs.Directions.{Direction, MessageNode, MessageGraph}
+pub use Rattle.factor_graph.specs.Words.{kindCode}
 
 -- ---- a message set as a row of floats
 
@@ -27,12 +27,6 @@ width [] = 0
 width (d ∷ ds) = d .messageLength + width ds
 
 -- ---- the message graph in words: five rows
-
-abbrev pub kindCode : Kind → ℕ
-kindCode grade = 0
-kindCode (factor d) = 1
-kindCode (input e) = 2
-kindCode (tree d) = 3
 
 -- the first direction that ends at each node, and behind the last node the number of directions
 unfoldable pub firstsOf : MessageGraph → List ℕ

@@ -22,3 +22,9 @@ pub mod Variable
 pub mod Factor
 pub mod Residual
 pub mod Rebuild
+-- The rows of a component's message graph, from its record.
+pub mod DirectionsRecord
+pub mod DirectionsRows
+pub mod Directions
+pub mod DirectionsSteps
+pub mod DirectionsRead

@@ -1,5 +1,6 @@
 // The leaves of src/messages.rs of the Rust: each message, residual, test and belief from slices and values alone.
 mod belief;
+pub mod directions;
 mod factor;
 mod opening;
 mod rebuild;
