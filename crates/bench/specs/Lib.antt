@@ -1,2 +1,3 @@
--- What the timed leaves compute.
+-- What is timed computes this.
 pub mod Leaves
+pub mod Tree

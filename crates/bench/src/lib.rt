@@ -1,8 +1,9 @@
-// What benchmark/ times and compares: a leaf of array_utils at each entry of a slice, in place. No other crate uses it.
+// What benchmark/ times and compares, in place in a slice: a leaf of array_utils at each entry, and a convolution tree. No other crate uses it.
 ghost use mathlib.Core.Path.{_≡_};
 ghost use mathlib.Core.List.{map};
 ghost use Rattle.array_utils.specs.LogTable.{logTable};
 ghost use Rattle.bench.specs.Leaves.{expLeaf, logNormalizeLeaf, leafOf};
+ghost use Rattle.bench.specs.Tree.{treeOf};
 use array_utils::VariableMessage;
 
 // Above 0, and at NaN, nothing changes.
@@ -53,5 +54,20 @@ pub extern "C" fn leaf_all(which: u32, xs: &mut [f32])
     while i < xs.len() {
         xs[i] = leaf(&table, which, xs[i]);
         i += 1;
+    }
+}
+
+// `tree_messages` over n grades, where it is defined and w has room for it. Else nothing changes.
+#[no_mangle]
+pub extern "C" fn tree_messages(w: &mut [f32], n: usize)
+    ensures { λ _. ⌜ now (w .exit) ≡ treeOf n (now (w .entry)) ⌝ }
+{
+    if 2 <= n {
+        if n <= 128 {
+            let needed = 3 * n + 1 + convolution_tree::scratch_len(n);
+            if needed <= w.len() {
+                convolution_tree::tree_messages(w, n);
+            }
+        }
     }
 }
