@@ -16,7 +16,7 @@ use Rattle.graph_laws.specs.Accepted.{Passes, sized, valid, pairs-apart}
 use Rattle.list_laws.specs.Part.{region, getD-region, length-region}
 use Rattle.list_laws.specs.Put.{put, put-in, length-put}
 use Rattle.factor_graph.specs.Words.{builtWords}
-use Rattle.factor_graph.specs.BuildPut.{put-front}
+use Rattle.list_laws.specs.PutParts.{put-front}
 use Rattle.factor_graph.specs.BuildGroup.{pairs-length, rows, rows-length, tally, length-tally}
 use Rattle.factor_graph.specs.BuildSums.{length-range, sums, sumOf, length-sums}
 use Rattle.factor_graph.specs.BuildSlots.{endsFrom}

@@ -12,7 +12,7 @@ use Rattle.definition.specs.FactorGraph.{Edge, hasTree}
 use Rattle.graph_laws.specs.Lists.{All, All-left}
 use Rattle.list_laws.specs.Part.{region, length-region}
 use Rattle.list_laws.specs.Put.{put, put-none, length-put}
-use Rattle.factor_graph.specs.BuildPut.{put-cons}
+use Rattle.list_laws.specs.PutParts.{put-cons}
 use Rattle.factor_graph.specs.BuildGroup.{Countable, countable-step, drop-end}
 use Rattle.factor_graph.specs.BuildSums.{sumOf}
 

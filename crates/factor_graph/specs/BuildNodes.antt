@@ -9,7 +9,7 @@ use lib.Seq.{drop-cons}
 use lib.Dec.{leb}
 use Rattle.definition.specs.Lists.{range, consIf}
 use Rattle.list_laws.specs.Put.{put, put-none, put-next}
-use Rattle.factor_graph.specs.BuildPut.{put-cons}
+use Rattle.list_laws.specs.PutParts.{put-cons}
 use Rattle.factor_graph.specs.BuildGroup.{drop-end}
 
 -- ---- a list stored element by element, from index `at` on

@@ -9,7 +9,7 @@ use Rattle.definition.specs.FactorGraph.{Bale, Node, gradeNode, factorNode, inp
 use Rattle.definition.specs.Components.{SubgraphNode}
 use Rattle.list_laws.specs.Put.{put, put-none, put-next, length-put}
 use Rattle.factor_graph.specs.Words.{kindCode, label, numberedGraph}
-use Rattle.factor_graph.specs.BuildPut.{put-cons, put-comm}
+use Rattle.list_laws.specs.PutParts.{put-cons, put-comm}
 use Rattle.factor_graph.specs.BuildSums.{length-range}
 use Rattle.factor_graph.specs.BuildNodes.{kindWords}
 

@@ -1,6 +1,5 @@
 -- The graph in words; and what the building of it rests on, from lists to the whole record.
 pub mod Words
-pub mod BuildPut
 pub mod BuildGroup
 pub mod BuildSums
 pub mod BuildEdges

@@ -4,7 +4,7 @@ use Prim.Native.Nat.{_+_, _-_, _≤_}
 use native.Mathlib.Omega.{arith}
 use lib.ListN.{length}
 use lib.Ieee.{nan}
-use Rattle.float_laws.specs.InPlace.{mapped, mapped-length, mapped-turn, mapped-all}
+use Rattle.list_laws.specs.InPlace.{mapped, mapped-length, mapped-turn, mapped-all}
 use Rattle.definition.specs.Floats.{avoidUnderflow}
 use Rattle.definition.specs.Vectors.{avoidUnderflowAll}
 use Rattle.array_utils.proofs.vectors.avoid_underflow.Statement.{statement}

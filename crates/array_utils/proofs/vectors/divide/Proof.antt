@@ -4,7 +4,7 @@ use Prim.Native.Nat.{_+_, _-_, _≤_}
 use native.Mathlib.Omega.{arith}
 use lib.ListN.{length, getD}
 use lib.Ieee.{Float, nan, binary32, div}
-use Rattle.float_laws.specs.InPlace.{mapped, mapped-length, mapped-turn, mapped-all}
+use Rattle.list_laws.specs.InPlace.{mapped, mapped-length, mapped-turn, mapped-all}
 use Rattle.array_utils.proofs.vectors.divide.Statement.{statement}
 use Rattle.array_utils.proofs.vectors.divide.Tie as tie
 

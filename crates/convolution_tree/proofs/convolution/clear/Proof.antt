@@ -5,7 +5,7 @@ use native.Mathlib.Omega.{arith}
 use lib.ListN.{length}
 use lib.Ieee.{Float, ofBits, nan}
 use Rattle.definition.specs.Floats.{zeroᶠ}
-use Rattle.float_laws.specs.InPlace.{mapped, mapped-length, mapped-turn, mapped-all}
+use Rattle.list_laws.specs.InPlace.{mapped, mapped-length, mapped-turn, mapped-all}
 use Rattle.convolution_tree.specs.Zeros.{map-zero}
 use Rattle.convolution_tree.proofs.convolution.clear.Statement.{statement}
 use Rattle.convolution_tree.proofs.convolution.clear.Tie as tie

@@ -9,7 +9,7 @@ use lib.Ieee.{Float, ofBits, nan}
 use Rattle.list_laws.specs.Write.{write, write-none, write-next, length-write}
 use Rattle.list_laws.specs.Whole.{write-whole}
 use Rattle.definition.specs.Floats.{zeroᶠ}
-use Rattle.float_laws.specs.InPlace.{mapped, mapped-length, mapped-get, mapped-turn, mapped-all}
+use Rattle.list_laws.specs.InPlace.{mapped, mapped-length, mapped-get, mapped-turn, mapped-all}
 use Rattle.convolution_tree.specs.Zeros.{map-zero}
 use Rattle.convolution_tree.proofs.convolution.hand_over.Statement.{statement}
 use Rattle.convolution_tree.proofs.convolution.hand_over.Tie as tie

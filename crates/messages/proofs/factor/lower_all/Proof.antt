@@ -4,7 +4,7 @@ use Prim.Native.Nat.{_+_, _-_, _≤_}
 use native.Mathlib.Omega.{arith}
 use lib.ListN.{length}
 use lib.Ieee.{nan}
-use Rattle.float_laws.specs.InPlace.{mapped, mapped-length, mapped-turn, mapped-all}
+use Rattle.list_laws.specs.InPlace.{mapped, mapped-length, mapped-turn, mapped-all}
 use Rattle.messages.specs.Factor.{lowered}
 use Rattle.messages.proofs.factor.lower_all.Statement.{statement}
 use Rattle.messages.proofs.factor.lower_all.Tie as tie
