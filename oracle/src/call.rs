@@ -141,7 +141,7 @@ fn given_graph(call: &Call) -> CTFactorGraph {
 }
 
 /// Each end's place in the other's list is that list's length so far.
-fn join(nodes: &mut [Node], edges: &mut Vec<Edge>, grade: usize, marker: usize) {
+pub(crate) fn join(nodes: &mut [Node], edges: &mut Vec<Edge>, grade: usize, marker: usize) {
     let id = edges.len();
     let in_marker = nodes[marker].neighbors_count();
     let in_grade = nodes[grade].neighbors_count();

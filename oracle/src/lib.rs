@@ -6,6 +6,7 @@ pub mod call;
 pub mod faults;
 pub mod generate;
 pub mod generate_files;
+pub mod graph;
 pub mod hooks;
 pub mod limits;
 pub mod log_table;

@@ -1,3 +1,4 @@
--- What is timed computes this.
+-- What the timed functions compute and leave.
 pub mod Leaves
 pub mod Tree
+pub mod Graphs

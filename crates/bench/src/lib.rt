@@ -4,6 +4,9 @@ ghost use mathlib.Core.List.{map};
 ghost use Rattle.array_utils.specs.LogTable.{logTable};
 ghost use Rattle.bench.specs.Leaves.{expLeaf, logNormalizeLeaf, leafOf};
 ghost use Rattle.bench.specs.Tree.{treeOf};
+
+pub mod graph;
+
 use array_utils::VariableMessage;
 
 // Above 0, and at NaN, nothing changes.

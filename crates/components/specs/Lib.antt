@@ -18,3 +18,5 @@ pub mod ComponentByNumber
 pub mod ComponentTheorems
 pub mod ComponentReady
 pub mod ComponentPositions
+pub mod ComponentRoom
+pub mod ComponentCut

@@ -1,2 +1,3 @@
 pub mod components;
+pub mod graph;
 pub mod records;
