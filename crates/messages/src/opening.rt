@@ -15,7 +15,7 @@ use crate::rows::message_at;
 use array_utils::VariableMessage;
 
 // The belief and all incoming messages, of which each outgoing one of the opening leaves one out.
-fn log_total(table: &[f32; 1025], belief: VariableMessage, rows: &[f32]) -> VariableMessage
+pub fn log_total(table: &[f32; 1025], belief: VariableMessage, rows: &[f32]) -> VariableMessage
     requires { ⌜ now table ≡ logTable ⌝ }
     requires { ⌜ length (now rows) / 2 ≤ 1024 ⌝ }
     ensures { λ r. ⌜ (r .absent ≡ logTotal 0 (binary (belief .absent) (belief .present)) (pairs (now (rows .entry)))) × (r .present ≡ logTotal 1 (binary (belief .absent) (belief .present)) (pairs (now (rows .entry)))) × Wide 100000 (r .absent) × Wide 100000 (r .present) ⌝ }
@@ -23,7 +23,7 @@ fn log_total(table: &[f32; 1025], belief: VariableMessage, rows: &[f32]) -> Vari
     add_logs(table, logs(table, belief), rows)
 }
 
-fn leave_one_out(
+pub fn leave_one_out(
     table: &[f32; 1025],
     total: VariableMessage,
     message: VariableMessage,

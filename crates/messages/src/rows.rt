@@ -20,7 +20,7 @@ pub(crate) fn message_at(rows: &[f32], i: usize) -> VariableMessage
 }
 
 // The logarithm is within 91 of 0 whatever it is taken of: so sums of so few as a node has are finite.
-pub(crate) fn logs(table: &[f32; 1025], m: VariableMessage) -> VariableMessage
+pub fn logs(table: &[f32; 1025], m: VariableMessage) -> VariableMessage
     requires { ⌜ now table ≡ logTable ⌝ }
     ensures { λ r. ⌜ Logs (m .absent) (m .present) (r .absent) (r .present) ⌝ }
 {

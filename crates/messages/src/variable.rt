@@ -15,7 +15,7 @@ use crate::rows::message_at;
 use array_utils::VariableMessage;
 
 // From the sums of the logarithms of all incoming messages: less those of the receiver's own, and those of the belief.
-fn out_from_sums(
+pub fn out_from_sums(
     table: &[f32; 1025],
     sum: VariableMessage,
     prior: VariableMessage,

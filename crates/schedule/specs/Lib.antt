@@ -1,0 +1,23 @@
+-- Laws of opening, sweep and scheduled step over the rows of a component.
+pub mod Begin
+pub mod Open
+pub mod OpenFactors
+pub mod OpenGrades
+pub mod OpenKinds
+pub mod OpenRows
+pub mod OpenSends
+pub mod StepChanged
+pub mod StepFloats
+pub mod StepLog
+pub mod StepPart
+pub mod StepPending
+pub mod StepSingle
+pub mod StepUpdate
+pub mod Sweep
+pub mod SweepBuild
+pub mod SweepCopies
+pub mod SweepFactor
+pub mod SweepRebuild
+pub mod SweepRotate
+pub mod SweepRows
+pub mod SweepTree
