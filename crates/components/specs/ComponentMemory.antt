@@ -1,7 +1,7 @@
 -- The lent words while components are found: the graph's record, the scratch, and the components' records, as lists of their own.
 use mathlib.Core.Path.{_≡_, sym, ap, _∙_}
 use mathlib.Core.List.{List}
-use Prim.Native.Nat.{ℕ, _+_, _*_, _-_, _≤_, _<_}
+use Prim.Native.Nat.{ℕ, _+_, _*_, _≤_, _<_}
 use native.Mathlib.Omega.{arith}
 use lib.ListN.{length, getD, take, drop, set, length-drop}
 use lib.Seq.{getD-take, getD-drop, length-take-le, take-set-le, take-set-lt, drop-set-lt, drop-set-add}

@@ -1,7 +1,7 @@
 // The connected components of a built graph: the walk, and the record of each component.
 ghost use mathlib.Core.Path.{_≡_};
-ghost use Prim.Native.Nat.{ℕ, _+_, _-_, _*_, _≤_, _<_};
-ghost use lib.ListN.{length, getD, set};
+ghost use Prim.Native.Nat.{_+_, _-_, _*_, _≤_, _<_};
+ghost use lib.ListN.{length};
 ghost use Rattle.components.specs.ComponentMemory.{memory, outAt};
 ghost use Rattle.components.specs.ComponentWalk.{walkOf, firstOf, slotOf, otherEndOf, Meeting, visitNode, Visiting, visitNeighbours, Walking, walked};
 ghost use Rattle.components.specs.ComponentRecorded.{recordedOf};

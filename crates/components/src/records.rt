@@ -2,10 +2,10 @@
 ghost use mathlib.Core.Path.{_≡_};
 ghost use mathlib.Core.Logic.{_⊎_};
 ghost use Prim.Native.Nat.{ℕ, _+_, _-_, _*_, _≤_, _<_};
-ghost use lib.ListN.{length, getD, set};
+ghost use lib.ListN.{length, getD};
 ghost use Rattle.list_laws.specs.Write.{write};
-ghost use Rattle.components.specs.ComponentMemory.{memory, outAt, withOut};
-ghost use Rattle.components.specs.ComponentRecord.{lookedUp, nodeAt, degreeAt, slotsOf, ListingOne, listOne, Listing, listed, edgeOut, seenOf, numberEdge, seeSlots};
+ghost use Rattle.components.specs.ComponentMemory.{memory, withOut};
+ghost use Rattle.components.specs.ComponentRecord.{lookedUp, degreeAt, slotsOf, ListingOne, listOne, Listing, listed, edgeOut, seenOf, numberEdge, seeSlots};
 ghost use Rattle.components.specs.ComponentEdges.{EdgeRoom, Numbering, Seeing};
 ghost use Rattle.components.specs.ComponentRecorded.{Recording, recordedOf, recorded};
 use crate::components::first_slot;

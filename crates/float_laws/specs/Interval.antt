@@ -8,7 +8,7 @@ use lib.Ieee.{Float, binary32, add, sub, mul, div, le, lt, isNan}
 use lib.Ieee.Fits.{and-l, and-r}
 use lib.Ieee.Scale.{finite}
 use lib.Ieee.Positive.{positive, between}
-use Rattle.float_laws.specs.Order.{le-trans-at, le-refl-at, le-total-at, nlt→le, finite-between, finite-number, le-number-l, le-number-r}
+use Rattle.float_laws.specs.Order.{le-trans-at, le-refl-at, le-total-at, nlt→le, finite-between, finite-number, le-number-l}
 use Rattle.float_laws.specs.Laws.{zeroᶠ, add-mono, sub-mono, mul-mono-l, mul-mono-r, mul-anti-l, mul-anti-r, div-mono, div-anti, div-rise}
 
 pub record In (lo hi z : Float) : Type 0 where
@@ -149,11 +149,3 @@ raised-in lo hi x n b h = go (lt x lo) (λ (t : T (not (lt x lo))). nlt→le x l
     go : (t : Bool) → (T (not t) → T (le lo x)) → In lo hi (cond t lo x)
     go true k = record { low = le-refl-at lo (le-number-l lo hi b); high = b }
     go false k = record { low = k tt; high = h }
-
--- `if hi < x { hi } else { x }` of a number x that is at least lo
-pub lowered-in : (lo hi x : Float) → T (not (isNan x)) → T (le lo hi) → T (le lo x) → In lo hi (cond (lt hi x) hi x)
-lowered-in lo hi x n b h = go (lt hi x) (λ (t : T (not (lt hi x))). nlt→le hi x (le-number-r lo hi b) n t)
-  where
-    go : (t : Bool) → (T (not t) → T (le x hi)) → In lo hi (cond t hi x)
-    go true k = record { low = b; high = le-refl-at hi (le-number-r lo hi b) }
-    go false k = record { low = h; high = k tt }

@@ -9,7 +9,7 @@ use lib.Ieee.{Float, nan, inf, fin, binary32, add, sub, mul, div, le, fits}
 use lib.Ieee.Scale.{finite}
 use lib.Ieee.Positive.{den, positive, positive-finite, above-of-le}
 pub use Rattle.definition.specs.Floats.{zeroᶠ, oneᶠ}
-use Rattle.float_laws.specs.Order.{plus, minus, Below, Le, le→Le, le-trans-at}
+use Rattle.float_laws.specs.Order.{plus, minus, Below, Le, le→Le}
 use Rattle.float_laws.specs.Rounded.{round-le, at-least, at-most}
 use Rattle.float_laws.specs.Ops.{add-is, sub-is, mul-is, mul-comm-at, div-is}
 
@@ -73,11 +73,6 @@ mul-mono-l x x' y p p' q h k =
 pub mul-mono-r : (x y y' : Float) → T (finite x) → T (finite y) → T (finite y') → T (le zeroᶠ x) → T (le y y') → T (le (mul binary32 x y) (mul binary32 x y'))
 mul-mono-r x y y' p q q' h k = rw (mul-comm-at binary32 x y, mul-comm-at binary32 x y') (mul-mono-l y y' x q q' p k h)
 
--- both factors at least zero
-pub mul-mono : (x x' y y' : Float) → T (finite x) → T (finite x') → T (finite y) → T (finite y') → T (le zeroᶠ x) → T (le zeroᶠ y) → T (le x x') → T (le y y') → T (le (mul binary32 x y) (mul binary32 x' y'))
-mul-mono x x' y y' p p' q q' zx zy h k =
-    le-trans-at (mul binary32 x y) (mul binary32 x' y) (mul binary32 x' y') (mul-mono-l x x' y p p' q h zy) (mul-mono-r x' y y' p' q q' (le-trans-at zeroᶠ x x' zx h) k)
-
 pub mul-anti-l : (x x' y : Float) → T (finite x) → T (finite x') → T (finite y) → T (le x x') → T (le y zeroᶠ) → T (le (mul binary32 x' y) (mul binary32 x y))
 mul-anti-l x x' y p p' q h k =
     round-le binary32 (mul binary32 x' y) (mul binary32 x y) _ _ _ _ _ _ (mul-is binary32 x' y p' q) (mul-is binary32 x y p q)
@@ -116,18 +111,8 @@ add-grows x y t p q h =
     go : (p n c q o d : ℕ) → o ≤ q → Below p n c (p * d + q * c) (n * d + o * c) (c * d)
     go p n c q o d h = simp (add-mul, mul-assoc, mul-comm, mul-left-comm) (omega (arith, simp (mul-assoc, mul-comm, mul-left-comm) at (mul-le-mul-right (c * c) h)))
 
-pub add-shrinks : (x y : Float) → T (fits binary32 x) → T (finite x) → T (finite y) → T (le y zeroᶠ) → T (le (add binary32 x y) x)
-add-shrinks x y t p q h =
-    at-most binary32 x (add binary32 x y) _ _ _ t p (add-is binary32 x y p q) (go (plus x) (minus x) (den x) (plus y) (minus y) (den y) (at-most-zero y q h))
-  where
-    go : (p n c q o d : ℕ) → q ≤ o → Below (p * d + q * c) (n * d + o * c) (c * d) p n c
-    go p n c q o d h = simp (add-mul, mul-assoc, mul-comm, mul-left-comm) (omega (arith, simp (mul-assoc, mul-comm, mul-left-comm) at (mul-le-mul-right (c * c) h)))
-
 pub sub-at-most-zero : (x y : Float) → T (finite x) → T (finite y) → T (le x y) → T (le (sub binary32 x y) zeroᶠ)
 sub-at-most-zero x y p q h = at-most binary32 zeroᶠ (sub binary32 x y) _ _ _ (unfold fits in tt) tt (sub-is binary32 x y p q) (omega (arith, le→Le x y p q h))
-
-pub sub-at-least-zero : (x y : Float) → T (finite x) → T (finite y) → T (le y x) → T (le zeroᶠ (sub binary32 x y))
-sub-at-least-zero x y p q h = at-least binary32 zeroᶠ (sub binary32 x y) _ _ _ (unfold fits in tt) tt (sub-is binary32 x y p q) (omega (arith, le→Le y x q p h))
 
 pub div-at-most-one : (x y : Float) → T (finite x) → T (positive y) → T (le x y) → T (le (div binary32 x y) oneᶠ)
 div-at-most-one x y p q h =
@@ -139,10 +124,6 @@ div-at-most-one x y p q h =
 pub div-at-least-zero : (x y : Float) → T (finite x) → T (positive y) → T (le zeroᶠ x) → T (le zeroᶠ (div binary32 x y))
 div-at-least-zero x y p q h =
     at-least binary32 zeroᶠ (div binary32 x y) _ _ _ (unfold fits in tt) tt (div-is binary32 x y p q) (omega (arith, mul-le-mul-right (den y) (at-least-zero x p h)))
-
-pub mul-at-least-zero : (x y : Float) → T (finite x) → T (finite y) → T (le zeroᶠ x) → T (le zeroᶠ y) → T (le zeroᶠ (mul binary32 x y))
-mul-at-least-zero x y p q h k =
-    at-least binary32 zeroᶠ (mul binary32 x y) _ _ _ (unfold fits in tt) tt (mul-is binary32 x y p q) (omega (arith, turn (minus x) (plus x) (minus y) (plus y) (at-least-zero x p h) (at-least-zero y q k)))
 
 -- x * y ≤ x for 0 ≤ x and y ≤ 1
 pub mul-at-most-left : (x y : Float) → T (fits binary32 x) → T (finite x) → T (finite y) → T (le zeroᶠ x) → T (le y oneᶠ) → T (le (mul binary32 x y) x)

@@ -1,12 +1,12 @@
 -- The order of the floats, signed: a finite x is (plus x - minus x) / den x, and `le` is the order of these fractions. `le` is transitive, and reflexive but at `nan`.
 -- What lies between two finite values is finite.
 use mathlib.Core.Path.{_≡_, refl, sym}
-use mathlib.Core.Logic.{_⊎_, inl, inr, ⊎-map, ⊎-elim}
+use mathlib.Core.Logic.{_⊎_, inl, inr, ⊎-map}
 use Prim.Native.Nat.{ℕ, _+_, _*_, _≤_, _<_}
 use native.Mathlib.Nat.{le-of-eq, le-of-lt, eq-or-lt-of-le, eq-zero-or-pos, mul-comm, mul-assoc, mul-left-comm, add-mul, mul-le-mul-right, le-of-mul-le-mul-right}
 use native.Mathlib.Omega.{arith}
 use mathlib.Core.Bool.{Bool, true, false, not, _&&_, _||_}
-use lib.Dec.{T, T-not, leb, ltb, leb→le, nleb→lt, nltb→le, eqb, eqb→eq, ltb→lt, lt→ltb}
+use lib.Dec.{T, leb, ltb, leb→le, nleb→lt, nltb→le, eqb, eqb→eq, ltb→lt, lt→ltb}
 use lib.Ieee.{Float, nan, inf, fin, up, down, neg, lt, eq, le, isNan}
 use lib.Ieee.Fits.{and-l, and-r, and-i, eq→eqb}
 use lib.Ieee.Scale.{finite}
@@ -229,10 +229,6 @@ pub lt→le : (x y : Float) → T (lt x y) → T (le x y)
 unfolding le
 lt→le x y h = or-l (lt x y) (eq x y) h
 
-pub eq→le : (x y : Float) → T (eq x y) → T (le x y)
-unfolding le
-eq→le x y h = or-r (lt x y) (eq x y) h
-
 -- ---- between two finite values
 pub finite-between : (lo x hi : Float) → T (finite lo) → T (finite hi) → T (le lo x) → T (le x hi) → T (finite x)
 unfolding le
@@ -272,15 +268,8 @@ nle→lt x y h k n = go (lt x y) (λ (t : T (not (lt x y))). nlt→le x y h k t)
     go true f = tt
     go false f = n (f tt)
 
-pub lt-le-trans : (x y z : Float) → T (lt x y) → T (le y z) → T (lt x z)
-lt-le-trans x y z h k = nle→lt x z (le-number-l x y (lt→le x y h)) (le-number-r y z k) (λ (g : T (le z x)). lt→nle x y h (le-trans-at y z x k g))
-
 pub le-lt-trans : (x y z : Float) → T (le x y) → T (lt y z) → T (lt x z)
 le-lt-trans x y z h k = nle→lt x z (le-number-l x y h) (le-number-r y z (lt→le y z k)) (λ (g : T (le z x)). lt→nle y z k (le-trans-at z x y g h))
-
--- a test `x <= y` that failed
-pub nle→le : (x y : Float) → T (not (isNan x)) → T (not (isNan y)) → T (not (le x y)) → T (le y x)
-nle→le x y h k n = ⊎-elim (λ (g : T (le x y)). absurd (T-not (le x y) n g)) (λ (g : T (le y x)). g) (le-total-at x y h k)
 
 pub neg-neg : (x : Float) → neg (neg x) ≡ x
 unfolding neg
@@ -289,9 +278,3 @@ neg-neg (inf true) = refl
 neg-neg (inf false) = refl
 neg-neg (fin true m e) = refl
 neg-neg (fin false m e) = refl
-
-pub neg-finite : (x : Float) → T (finite x) → T (finite (neg x))
-unfolding neg
-neg-finite nan h = h
-neg-finite (inf s) h = h
-neg-finite (fin s m e) h = tt

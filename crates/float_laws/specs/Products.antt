@@ -4,7 +4,7 @@ use mathlib.Core.Path.{_≡_, refl, sym, ap, _∙_, subst}
 use mathlib.Core.Bool.{Bool, true, false, not}
 use mathlib.Core.List.{List, [], _∷_}
 use Prim.Native.Nat.{ℕ, zero, suc, _+_, _*_, _/_, _^_, _≤_, _<_}
-use native.Mathlib.Nat.{le-trans, le-of-eq, le-of-lt, add-zero, zero-add, add-assoc, suc-add, add-suc, mul-comm, mul-assoc, mul-right-comm, mul-mul-mul-comm, add-mul, one-mul, zero-mul, mul-le-mul-left, mul-le-mul-right, le-of-mul-le-mul-right, mul-pos, suc-mul, not-suc-le-zero, le-of-suc-le-suc, suc-inj, suc-ne-zero, zero-div}
+use native.Mathlib.Nat.{le-trans, le-of-eq, le-of-lt, add-zero, zero-add, add-assoc, suc-add, add-suc, mul-comm, mul-assoc, mul-right-comm, mul-mul-mul-comm, add-mul, one-mul, zero-mul, mul-le-mul-left, mul-le-mul-right, le-of-mul-le-mul-right, mul-pos, suc-mul, suc-inj, suc-ne-zero, zero-div}
 use native.Mathlib.Omega.{arith}
 use lib.Dec.{T, lt→ltb, leb, leb→le, nleb→lt, lit≤}
 use lib.ListN.{length, getD, take, drop}
@@ -156,21 +156,6 @@ pub atMost-take : (K k : ℕ) (xs : List Float) → AllAtMost K xs → AllAtMost
 atMost-take K zero xs n = tt
 atMost-take K (suc k) [] n = tt
 atMost-take K (suc k) (x ∷ xs) n = (n .0, atMost-take K k xs (n .1))
-
-pub over-drop : (B k : ℕ) (xs : List Float) → AllOver B xs → AllOver B (drop k xs)
-over-drop B zero xs n = n
-over-drop B (suc k) [] n = tt
-over-drop B (suc k) (x ∷ xs) n = over-drop B k xs (n .1)
-
-pub over-take : (B k : ℕ) (xs : List Float) → AllOver B xs → AllOver B (take k xs)
-over-take B zero xs n = tt
-over-take B (suc k) [] n = tt
-over-take B (suc k) (x ∷ xs) n = (n .0, over-take B k xs (n .1))
-
-pub over-at : (B : ℕ) (xs : List Float) (i : ℕ) → AllOver B xs → i < length xs → B ≤ val32 (getD xs i nan)
-over-at B [] i n h = absurd (not-suc-le-zero h)
-over-at B (x ∷ xs) zero n h = n .0
-over-at B (x ∷ xs) (suc i) n h = over-at B xs i (n .1) (le-of-suc-le-suc h)
 
 -- ---- from the order of floats to units and back
 pub le→units : (x y : Float) → T (fits binary32 x) → T (fits binary32 y) → T (clear x) → T (clear y) → T (finite x) → T (finite y) → T (le x y) → val32 x ≤ val32 y

@@ -3,12 +3,11 @@ use mathlib.Core.Path.{_≡_, refl, sym, ap, _∙_, subst}
 use mathlib.Core.Bool.{true, false, true≢false}
 use mathlib.Core.List.{List, [], _∷_, _++_}
 use Prim.Native.Nat.{ℕ, zero, suc, _+_, _*_, _^_, _≤_, _<_}
-use native.Mathlib.Nat.{not-suc-le-zero, le-of-suc-le-suc, add-zero, zero-add, mul-one, one-mul, zero-mul, suc-mul, add-mul, mul-right-comm, mul-comm, mul-assoc, mul-left-comm, zero-lt-suc}
+use native.Mathlib.Nat.{not-suc-le-zero, le-of-suc-le-suc, add-zero, zero-add, mul-one, zero-mul, suc-mul, add-mul, mul-comm, mul-assoc, mul-left-comm, zero-lt-suc}
 use native.Mathlib.Omega.{arith}
 use lib.IntN.{pos}
 use lib.Dec.{T}
-use lib.ListN.{length, getD, take}
-use lib.Seq.{take-suc}
+use lib.ListN.{length, getD}
 use lib.Ieee.{Float, nan, inf, fin, binary32, up, add, div, neg, le, fits, ofInt}
 use lib.Ieee.Fits.{add-fits, neg-fits, ofInt-fits}
 use lib.Ieee.Order.{le-of-values}
@@ -28,10 +27,6 @@ pub sum-snoc : (a : Float) (xs : List Float) (x : Float) → sumFrom a (xs ++ (x
 sum-snoc a [] x = refl
 sum-snoc a (y ∷ xs) x = sum-snoc (add binary32 a y) xs x
 
--- one more entry: the step of a loop that sums
-pub sum-step : (a : Float) (xs : List Float) (i : ℕ) → i < length xs → sumFrom a (take (suc i) xs) ≡ add binary32 (sumFrom a (take i xs)) (getD xs i nan)
-sum-step a xs i h = ap (sumFrom a) (take-suc xs i nan h) ∙ sum-snoc a (take i xs) (getD xs i nan)
-
 -- ---- each entry lies in [lo, hi]
 abbrev pub Each : Float → Float → List Float → Type 0
 Each lo hi [] = Unit {0}
@@ -41,10 +36,6 @@ pub each-at : (lo hi : Float) (xs : List Float) (i : ℕ) → Each lo hi xs → 
 each-at lo hi [] i e h = absurd (not-suc-le-zero h)
 each-at lo hi (x ∷ xs) zero e h = e .0
 each-at lo hi (x ∷ xs) (suc i) e h = each-at lo hi xs i (e .1) (le-of-suc-le-suc h)
-
-pub each-of : (lo hi : Float) (xs : List Float) → ((i : ℕ) → i < length xs → In lo hi (getD xs i nan)) → Each lo hi xs
-each-of lo hi [] f = tt
-each-of lo hi (x ∷ xs) f = (f 0 (omega arith), each-of lo hi xs (λ (i : ℕ) (h : i < length xs). f (suc i) (omega arith)))
 
 -- ---- whole numbers
 whole-val : (n : ℕ) → n ≤ 2 ^ 24 → HasValue (ofNat n) false n 1
@@ -59,21 +50,6 @@ parts (fin false m e) a h = (tt, refl, sym (mul-one (m * up e)) ∙ h .1)
 
 pub whole-finite : (n : ℕ) → n ≤ 2 ^ 24 → T (finite (ofNat n))
 whole-finite n h = parts (ofNat n) n (whole-val n h) .0
-
-pub whole-step : (n : ℕ) → suc n ≤ 2 ^ 24 → T (le (add binary32 (ofNat n) oneᶠ) (ofNat (suc n)))
-whole-step n h =
-    let w = ofNat n in
-    let v = ofNat (suc n) in
-    let a = parts w n (whole-val n (omega arith)) in
-    let b = parts v (suc n) (whole-val (suc n) h) in
-    at-most binary32 v (add binary32 w oneᶠ) _ _ _ (ofInt-fits binary32 (pos (suc n))) (b .0) (add-is binary32 w oneᶠ (a .0) tt) (go (plus w) (minus w) (den w) (plus v) (minus v) (den v) (a .2) (b .1) (b .2))
-  where
-    go : (p o c q r d : ℕ) → p ≡ n * c → r ≡ 0 → q ≡ suc n * d → Below (p * 1 + 1 * c) (o * 1 + 0 * c) (c * 1) q r d
-    go p o c q r d e z f =
-        let x : r * (c * 1) ≡ 0 = rw z (zero-mul (c * 1)) in
-        let y : q * (c * 1) ≡ n * c * d + c * d = rw (f, mul-one c, suc-mul n d, add-mul (n * d) d c, mul-right-comm n d c, mul-comm d c) refl in
-        let z' : (p * 1 + 1 * c) * d ≡ n * c * d + c * d = rw (mul-one p, one-mul c, add-mul p c d, e) refl in
-        omega arith
 
 -- ---- whole numbers, in order and added
 pub whole-mono : (m n : ℕ) → m ≤ n → n ≤ 2 ^ 24 → T (le (ofNat m) (ofNat n))
@@ -167,18 +143,6 @@ share-in x s p q h k = record { low = div-at-least-zero x s p q h; high = div-at
 -- each entry between 0 and K, one of them at least b, a value above zero: the sum is above zero, and the shares are between 0 and 1
 pub sum-positive : (K : ℕ) (xs : List Float) (i : ℕ) (b : Float) → length xs * K ≤ 2 ^ 24 → Each zeroᶠ (ofNat K) xs → i < length xs → T (fits binary32 b) → T (positive b) → T (le b (getD xs i nan)) → T (positive (sumFrom zeroᶠ xs))
 sum-positive K xs i b h e l t u g = positive-of-le b (sumFrom zeroᶠ xs) u (sum-finite K xs h e) (sum-above K xs i b h e l t (positive-finite b u) g)
-
-pub shares-in : (K : ℕ) (xs : List Float) (i : ℕ) (b : Float) → length xs * K ≤ 2 ^ 24 → Each zeroᶠ (ofNat K) xs → ((j : ℕ) → j < length xs → T (fits binary32 (getD xs j nan))) → i < length xs → T (fits binary32 b) → T (positive b) → T (le b (getD xs i nan))
-    → (j : ℕ) → j < length xs → In zeroᶠ oneᶠ (div binary32 (getD xs j nan) (sumFrom zeroᶠ xs))
-shares-in K xs i b h e f l t u g j m =
-    let x = getD xs j nan in
-    let w = each-at zeroᶠ (ofNat K) xs j e m in
-    let p = finite-between zeroᶠ x (ofNat K) tt (whole-finite K (room (length xs) K (2 ^ 24) m h)) (w .low) (w .high) in
-    share-in x (sumFrom zeroᶠ xs) p (sum-positive K xs i b h e l t u g) (w .low) (sum-above K xs j x h e m (f j m) p (le-refl-at x (finite-number x p)))
-  where
-    room : (n K c : ℕ) → j < n → n * K ≤ c → K ≤ c
-    room zero K c l h = absurd (not-suc-le-zero l)
-    room (suc n) K c l h = let e : suc n * K ≡ n * K + K = suc-mul n K in omega arith
 
 -- the negative of a whole number
 abbrev pub minus32 : ℕ → Float

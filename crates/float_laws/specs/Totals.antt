@@ -2,10 +2,10 @@
 use mathlib.Core.Path.{_≡_, sym, ap, _∙_, subst}
 use mathlib.Core.Bool.{true, false}
 use mathlib.Core.List.{List, [], _∷_, map}
-use Prim.Native.Nat.{ℕ, zero, suc, _+_, _*_, _^_, _≤_, _<_, zero-le}
+use Prim.Native.Nat.{ℕ, zero, suc, _+_, _*_, _^_, _≤_, _<_}
 use native.Mathlib.Nat.{le-trans, le-of-eq, add-zero, zero-add, suc-add, add-suc, mul-comm, mul-assoc, mul-right-comm, mul-left-comm, add-mul, zero-mul, mul-le-mul-left, mul-le-mul-right, le-of-mul-le-mul-right, mul-pos, suc-mul, eq-of-mul-eq-mul-right, not-suc-le-zero, le-of-suc-le-suc}
 use native.Mathlib.Omega.{arith}
-use lib.Dec.{T, ltb→lt, lit≤}
+use lib.Dec.{T, ltb→lt}
 use lib.ListN.{length, getD}
 use lib.Pow.{pow-pos}
 use lib.Ieee.{Float, nan, inf, fin, binary32, round, add, div, neg, le, fits}
@@ -192,21 +192,6 @@ fine-of s u q (x ∷ xs) f = (f 0 (omega arith), fine-of s u q xs (λ (i : ℕ) 
 pub sum-fits : (a : Float) (xs : List Float) → T (fits binary32 a) → T (fits binary32 (sumFrom a xs))
 sum-fits a [] t = t
 sum-fits a (x ∷ xs) t = sum-fits (add binary32 a x) xs (add-fits binary32 a x)
-
--- the exact total of the shares, in units of 2 ^ -149, is between a half and two
-pub shares-total : (K : ℕ) (xs : List Float) → length xs * K ≤ 2 ^ 24 → length xs ≤ 2 ^ 20 → K ≤ 2 ^ 24 → AllAtMost K xs → T (positive (sumFrom zeroᶠ xs))
-    → (2 ^ 149 ≤ 2 * exactSum 0 (map (λ (x : Float). div binary32 x (sumFrom zeroᶠ xs)) xs)) × (exactSum 0 (map (λ (x : Float). div binary32 x (sumFrom zeroᶠ xs)) xs) ≤ 2 * 2 ^ 149)
-shares-total K xs g h k n q =
-    let s = sumFrom zeroᶠ xs in
-    let u = sum-fits zeroᶠ xs (unfold fits in tt) in
-    let f = fine-of s u q xs (λ (i : ℕ) (l : i < length xs). let w = share-at K xs i g k n q l in finite-between zeroᶠ (div binary32 (getD xs i nan) s) oneᶠ tt tt (w .low) (w .high)) in
-    let t = total-from s u q K 0 0 0 xs k (record { over = nothing (val32 s) (0 * 2 ^ 149 * 2 ^ 24 + 0 * 2 ^ 149 + 0 * (val32 s * 2 ^ 23)); under = zero-le }) n f in
-    both-ends (length xs) (exactSum 0 xs) (exactSum 0 (map (λ (x : Float). div binary32 x s) xs)) (val32 s) (2 ^ 149) (val-pos s u q) h (le-trans (mul-le-mul-right (2 ^ 23) h) (lit≤ tt)) (sum-near K xs g (le-trans h (lit≤ tt)) k n)
-    (subst (λ (z : ℕ). exactSum 0 (map (λ (x : Float). div binary32 x s) xs) * val32 s * 2 ^ 24 ≤ exactSum 0 xs * 2 ^ 149 * 2 ^ 24 + exactSum 0 xs * 2 ^ 149 + z * (val32 s * 2 ^ 23)) (zero-add (length xs)) (t .over))
-    (subst (λ (z : ℕ). exactSum 0 xs * 2 ^ 149 * 2 ^ 24 ≤ exactSum 0 (map (λ (x : Float). div binary32 x s) xs) * val32 s * 2 ^ 24 + exactSum 0 xs * 2 ^ 149 + z * (val32 s * 2 ^ 23)) (zero-add (length xs)) (t .under))
-  where
-    nothing : (v r : ℕ) → 0 * v * 2 ^ 24 ≤ r
-    nothing v r = omega arith
 
 -- ---- the shares are nonnegative and bounded again
 pub share-atMost : (K : ℕ) (xs : List Float) (i : ℕ) → length xs * K ≤ 2 ^ 24 → K ≤ 2 ^ 24 → AllAtMost K xs → T (positive (sumFrom zeroᶠ xs)) → i < length xs → AtMost 1 (div binary32 (getD xs i nan) (sumFrom zeroᶠ xs))

@@ -4,7 +4,7 @@ use mathlib.Core.List.{List, [], _∷_, _++_}
 use Prim.Native.Nat.{ℕ, zero, suc, _+_, _≤_, _<_}
 use native.Mathlib.Nat.{zero-add, suc-add}
 use native.Mathlib.Omega.{arith}
-use lib.ListN.{length, getD, take, drop, set, length-take, length-drop, length-append, take-append-drop}
+use lib.ListN.{length, getD, take, drop, set, length-drop, take-append-drop}
 use mathlib.Core.Logic.{_⊎_, ⊎-elim}
 use lib.Seq.{ext-getD, getD-take, getD-drop, length-take-le, set-append-left, paste, paste-zero, paste-suc}
 use Rattle.list_laws.specs.Write.{write, length-write, write-below, write-above}
@@ -13,11 +13,6 @@ module _ {A : Type 0} where
   -- the m elements from index a on, replaced by g of them
   abbrev pub onPart : ℕ → ℕ → (List A → List A) → List A → List A
   onPart a m g l = take a l ++ (g (take m (drop a l)) ++ drop m (drop a l))
-
-  pub length-onPart :
-      (a m : ℕ) (g : List A → List A) (l : List A) →
-      a + m ≤ length l → length (g (take m (drop a l))) ≡ m → length (onPart a m g l) ≡ length l
-  length-onPart a m g l h e = simp (length-append, length-take, length-drop, e) (omega arith)
 
   set-append-right : (p q : List A) (n : ℕ) (v : A) → set (p ++ q) (length p + n) v ≡ p ++ set q n v
   set-append-right [] q n v = rw zero-add

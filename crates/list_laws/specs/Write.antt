@@ -76,9 +76,6 @@ module _ {A : Type 0} where
       (l w : List A) (f : ℕ → A) (from n j : ℕ) (d : A) → w ≡ write l from n f → j < from → getD w j d ≡ getD l j d
   kept-below l w f from n j d e h = rw e (write-below l from n j f d h)
 
-  pub kept-length : (l w : List A) (f : ℕ → A) (from n : ℕ) → w ≡ write l from n f → length w ≡ length l
-  kept-length l w f from n e = rw e (length-write l from n f)
-
   -- two ranges in a row are one
   pub write-join :
       (l : List A) (from m n : ℕ) (f : ℕ → A) →

@@ -1,6 +1,6 @@
 -- How a component's message graph and its message sets stand in lent words and floats. A message set is one row of floats, the messages of the directions one
 -- after the other; a row of floats is cut into messages by the directions' lengths.
-use Prim.Native.Nat.{ℕ, zero, suc, _+_}
+use Prim.Native.Nat.{ℕ, _+_}
 use mathlib.Core.Path.{_≡_}
 use mathlib.Core.List.{List, [], _∷_, _++_, map}
 use lib.Ieee.{Float}

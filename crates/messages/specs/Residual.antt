@@ -14,7 +14,7 @@ use lib.Ieee.Fits.{up-pos, and-l}
 use lib.Ieee.Back.{whole-unique}
 use lib.Ieee.Bits.{is-true}
 use Rattle.definition.specs.Floats.{zeroᶠ, maxᶠ, abs}
-use Rattle.definition.specs.Vectors.{Message, entry, binary}
+use Rattle.definition.specs.Vectors.{Message, binary}
 use Rattle.definition.specs.Directions.{MessageGraph, directionAt, messageAt}
 use Rattle.definition.specs.Messages.{absLogRatio, pairResidual, vectorResidual, residual}
 

@@ -1,8 +1,7 @@
 -- The opening as a whole: the row of messages afterwards, the floats of a part afterwards, and that they stand for the definition's store.
-use Prim.Native.Nat.{ℕ, zero, suc, _+_, _-_, _*_, _≤_, _<_}
+use Prim.Native.Nat.{ℕ, _+_, _-_, _*_, _≤_, _<_}
 use native.Mathlib.Omega.{arith}
 use mathlib.Core.Path.{_≡_, refl, sym, ap, _∙_}
-use mathlib.Core.Bool.{Bool}
 use mathlib.Core.Option.{none}
 use mathlib.Core.List.{List, [], _∷_, _++_, map, append-assoc}
 use lib.Ieee.{Float, nan}
@@ -10,7 +9,7 @@ use lib.ListN.{length, getD, take, drop, replicate, length-append}
 use lib.Seq.{take-append-seam, drop-append-seam, drop-drop}
 use Rattle.definition.specs.Vectors.{Message}
 use Rattle.definition.specs.Settings.{Settings}
-use Rattle.definition.specs.Directions.{Direction, MessageNode, MessageGraph}
+use Rattle.definition.specs.Directions.{MessageNode, MessageGraph}
 use Rattle.definition.specs.Messages.{LastBuild}
 use Rattle.definition.specs.Sweeps.{initializeMessages, opening}
 use Rattle.graph_laws.specs.Flat.{flat}
@@ -19,9 +18,9 @@ use Rattle.list_laws.specs.Put.{put, put-part, put-is, length-put}
 use Rattle.list_laws.specs.Write.{write, length-write, write-in, write-below, write-above}
 use Rattle.messages.specs.Layout.{cut, width}
 use Rattle.messages.specs.LayoutCut.{flat-cut}
-use Rattle.messages.specs.LayoutOffsets.{offsetAt, offset-end}
+use Rattle.messages.specs.LayoutOffsets.{offset-end}
 use Rattle.messages.specs.State.{PartRows, FloatRows, partFloats, buildsOf, storeOf}
-use Rattle.schedule.specs.OpenRows.{MessageRow, FactorRows, FactorSettings, offsets-long, offset-is}
+use Rattle.schedule.specs.OpenRows.{MessageRow, FactorRows, offsets-long, offset-is}
 use Rattle.schedule.specs.OpenKinds.{InputsRows, GradesRows}
 
 -- ---- a part with its row of messages in force

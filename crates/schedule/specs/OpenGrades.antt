@@ -1,10 +1,10 @@
 -- A grade at the opening: all its messages from one sum, each with the receiver's own left out.
-use Prim.Native.Nat.{ℕ, _+_, _-_, _*_, _/_, _≤_, _<_}
+use Prim.Native.Nat.{ℕ, _+_, _-_, _/_, _≤_, _<_}
 use native.Mathlib.Omega.{arith}
 use mathlib.Core.Path.{_≡_, refl, sym, ap, _∙_}
 use mathlib.Core.Bool.{Bool, true, false}
 use mathlib.Core.List.{List, [], _∷_, map}
-use lib.Dec.{T, leb, leb→le, le→leb, not-T}
+use lib.Dec.{leb, leb→le, le→leb, not-T}
 use lib.Ieee.{Float}
 use lib.Ieee.Bits.{is-true, is-false}
 use lib.ListN.{length, getD, length-map}
@@ -12,19 +12,18 @@ use Rattle.definition.specs.Floats.{_⊖_, oneᶠ}
 use Rattle.definition.specs.Vectors.{Message, binary}
 use Rattle.definition.specs.Settings.{Settings}
 use Rattle.definition.specs.FactorGraph.{Kind, grade, factor, input, tree}
-use Rattle.definition.specs.Directions.{Direction, MessageNode, MessageGraph, noMessageNode, nodeAt, directionAt, messageAt, messagesIn, setMessages}
+use Rattle.definition.specs.Directions.{Direction, MessageNode, MessageGraph, noMessageNode, nodeAt, messageAt, messagesIn}
 use Rattle.definition.specs.Messages.{initialBelief}
 use Rattle.definition.specs.Sweeps.{logTotal, leaveOneOut, openingVariable, openingGrade}
 use Rattle.graph_laws.specs.AloneChecks.{All-getD}
 use Rattle.graph_laws.specs.DirectionNumbers.{getD-mapped}
 use Rattle.graph_laws.specs.MessageLengths.{AllBinary, MessageNodeSound}
 use Rattle.graph_laws.specs.MessageCounts.{message-messagesIn}
-use Rattle.graph_laws.specs.Consistency.{outgoingAt}
 use Rattle.graph_laws.specs.Sending.{Paired, MessageNodeKept}
 use Rattle.graph_laws.specs.Unread.{length-messagesIn}
 use Rattle.list_laws.specs.Part.{region}
 use Rattle.list_laws.specs.Put.{put}
-use Rattle.messages.specs.Layout.{cut, width, kindCode}
+use Rattle.messages.specs.Layout.{cut, kindCode}
 use Rattle.messages.specs.LayoutOffsets.{longAt, TwoLong}
 use Rattle.messages.specs.LayoutCut.{length-cut, directionsIn, rowIn, messagesIn-cut}
 use Rattle.messages.specs.LayoutPairs.{pairs, length-rowIn-two}

@@ -3,7 +3,7 @@ use Prim.Native.Nat.{ℕ, _+_, _*_, _≤_, _<_}
 use native.Mathlib.Omega.{arith}
 use mathlib.Core.Path.{_≡_, refl, sym, ap, _∙_}
 use mathlib.Core.Bool.{Bool, true, false}
-use mathlib.Core.List.{List, [], map}
+use mathlib.Core.List.{List, map}
 use lib.Dec.{eqb}
 use lib.Ieee.{Float, nan}
 use lib.ListN.{length, getD, take}
@@ -12,7 +12,7 @@ use Rattle.definition.specs.Floats.{zeroᶠ}
 use Rattle.definition.specs.Vectors.{Message, binary}
 use Rattle.definition.specs.Settings.{Settings}
 use Rattle.definition.specs.FactorGraph.{Kind, grade, factor, input, tree, isGrade, isFactor, isInput}
-use Rattle.definition.specs.Directions.{Direction, MessageNode, MessageGraph, noMessageNode, nodeAt, setMessages}
+use Rattle.definition.specs.Directions.{MessageNode, MessageGraph, noMessageNode, nodeAt, setMessages}
 use Rattle.definition.specs.Messages.{initialBelief}
 use Rattle.definition.specs.Sweeps.{updateKind, openingInput}
 use Rattle.graph_laws.specs.AloneChecks.{All-getD}
@@ -25,7 +25,7 @@ use Rattle.messages.specs.LayoutRows.{RowsRead, rows-read}
 use Rattle.messages.specs.LayoutKinds.{code-grade, code-factor, code-input}
 use Rattle.messages.specs.LayoutSweeps.{kindStep, kind-next}
 use Rattle.messages.specs.State.{HasEvidence, PartRows}
-use Rattle.schedule.specs.OpenRows.{SendRows, SomeSendRows, FactorRows, SomeFactorRows, SomeGradeRows}
+use Rattle.schedule.specs.OpenRows.{SendRows, FactorRows}
 use Rattle.schedule.specs.OpenSends.{region-two}
 
 -- ---- a turn by the code

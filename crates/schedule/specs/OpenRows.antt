@@ -1,5 +1,5 @@
 -- The rows that the opening reads and writes: what is asked of them, and that every index of its loops is in range.
-use Prim.Native.Nat.{ℕ, _+_, _-_, _*_, _≤_, _<_}
+use Prim.Native.Nat.{ℕ, _+_, _-_, _≤_, _<_}
 use native.Mathlib.Omega.{arith}
 use mathlib.Core.Path.{_≡_, sym, ap, _∙_}
 use mathlib.Core.Bool.{Bool}
@@ -7,7 +7,7 @@ use mathlib.Core.List.{List}
 use lib.Ieee.{Float}
 use lib.ListN.{length, getD}
 use Rattle.definition.specs.Settings.{Settings}
-use Rattle.definition.specs.Directions.{Direction, MessageGraph, nodeAt, directionAt}
+use Rattle.definition.specs.Directions.{Direction, MessageGraph, nodeAt}
 use Rattle.messages.specs.Layout.{offsetsFrom, width, kindCode}
 use Rattle.messages.specs.LayoutOffsets.{longAt, offsetAt, length-offsets, offset-next, offset-mono, offset-room}
 use Rattle.messages.specs.LayoutRows.{RowsRead, rows-read}

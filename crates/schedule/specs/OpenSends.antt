@@ -1,6 +1,5 @@
 -- What each kind of node sends at the opening, in a row: the blanks, an input's belief, a factor's message to its first neighbour, a grade's messages.
-use Prim.Native.Nat.{ℕ, zero, suc, _+_, _-_, _*_, _≤_, _<_}
-use native.Mathlib.Numerals.{add-one}
+use Prim.Native.Nat.{ℕ, zero, suc, _+_, _-_, _≤_, _<_}
 use native.Mathlib.Nat.{add-zero}
 use native.Mathlib.Omega.{arith}
 use mathlib.Core.Path.{_≡_, refl, sym, ap, _∙_}
@@ -10,11 +9,11 @@ use lib.Dec.{T, ltb, lt→ltb, nltb→le, not-T, ltb→lt}
 use lib.Ieee.{Float, nan}
 use lib.Ieee.Bits.{is-true, is-false}
 use lib.ListN.{length, getD, take, drop, set, replicate, length-set, length-map, length-replicate, getD-replicate}
-use lib.Seq.{ext-getD, set-getD, getD-set-same, getD-set-other}
+use lib.Seq.{ext-getD, getD-set-same, getD-set-other}
 use Rattle.definition.specs.Floats.{oneᶠ, halfᶠ}
 use Rattle.definition.specs.Vectors.{Message, binary}
 use Rattle.definition.specs.Settings.{Settings}
-use Rattle.definition.specs.Directions.{Direction, MessageNode, MessageGraph, noDirection, nodeAt, directionAt, messageAt, messagesIn, setMessages}
+use Rattle.definition.specs.Directions.{Direction, MessageGraph, noDirection, nodeAt, directionAt, messageAt, setMessages}
 use Rattle.definition.specs.Sweeps.{initialMessage}
 use Rattle.graph_laws.specs.DirectionNumbers.{getD-mapped}
 use Rattle.graph_laws.specs.MessageLengths.{AllBinary}
@@ -22,10 +21,10 @@ use Rattle.list_laws.specs.Put.{put, put-part, put-is, length-put}
 use Rattle.list_laws.specs.Part.{region, getD-region, length-region}
 use Rattle.list_laws.specs.Write.{write, write-next, write-none, write-ext}
 use Rattle.list_laws.specs.Whole.{write-whole}
-use Rattle.messages.specs.Layout.{cut, width}
-use Rattle.messages.specs.LayoutOffsets.{longAt, offsetAt}
+use Rattle.messages.specs.Layout.{cut}
+use Rattle.messages.specs.LayoutOffsets.{longAt}
 use Rattle.messages.specs.LayoutCut.{length-cut}
-use Rattle.messages.specs.LayoutWrite.{cut-put, Takes, sent, setMessages-cut}
+use Rattle.messages.specs.LayoutWrite.{cut-put, sent}
 use Rattle.messages.specs.LayoutWords.{sent-next, sends-there}
 use Rattle.messages.specs.LayoutPuts.{puts}
 use Rattle.messages.specs.LayoutRows.{RowsRead}

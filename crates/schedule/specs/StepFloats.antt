@@ -1,17 +1,16 @@
 -- The floats of a component, row by row: what is read of one row, and what is put into one.
 use Prim.Native.Nat.{ℕ, _+_, _*_, _≤_, _<_}
-use native.Mathlib.Nat.{zero-add}
 use native.Mathlib.Omega.{arith}
-use mathlib.Core.Path.{_≡_, refl, sym, ap, _∙_}
+use mathlib.Core.Path.{_≡_, sym, ap, _∙_}
 use mathlib.Core.Logic.{_⊎_, ⊎-elim}
-use mathlib.Core.List.{List, [], _∷_, _++_, append-assoc}
+use mathlib.Core.List.{List, _++_, append-assoc}
 use lib.Ieee.{Float, nan}
 use lib.ListN.{length, getD, take, drop, set, length-append, length-drop, drop-of-length-le}
 use lib.Seq.{ext-getD, take-append-le, drop-append-le, take-append-add, drop-append-add, take-all}
 use Rattle.graph_laws.specs.Lists.{append-none}
 use Rattle.definition.specs.Directions.{MessageGraph}
 use Rattle.list_laws.specs.Part.{region, length-region, getD-region}
-use Rattle.list_laws.specs.Put.{put, put-is, put-inner, length-put, region-out}
+use Rattle.list_laws.specs.Put.{put, put-is}
 use Rattle.list_laws.specs.Write.{write, length-write, write-in, write-below, write-above, kept-below, kept-above, write-next}
 use Rattle.messages.specs.Layout.{width}
 use Rattle.messages.specs.State.{FloatRows, partFloats}

@@ -1,8 +1,8 @@
 -- What some nodes hold, copied from one row of a component's floats to another: into the log before a step, and into the messages in force after a tree's.
-use Prim.Native.Nat.{ℕ, zero, suc, _+_, _-_, _*_, _≤_, _<_}
+use Prim.Native.Nat.{ℕ, _+_, _-_, _*_, _≤_, _<_}
 use native.Mathlib.Omega.{arith}
 use mathlib.Core.Path.{_≡_, refl, sym, ap, _∙_}
-use mathlib.Core.Logic.{_⊎_, ⊎-elim, inl, inr}
+use mathlib.Core.Logic.{⊎-elim, inl, inr}
 use mathlib.Core.List.{List, [], _∷_}
 use lib.Ieee.{Float, nan}
 use lib.ListN.{length, getD}
@@ -12,12 +12,12 @@ use Rattle.definition.specs.Messages.{residual}
 use Rattle.definition.specs.Lists.{range}
 use Rattle.definition.specs.Run.{neighbourNumbers}
 use Rattle.graph_laws.specs.Lists.{length-count}
-use Rattle.list_laws.specs.Part.{region, length-region, getD-region}
+use Rattle.list_laws.specs.Part.{region, length-region}
 use Rattle.list_laws.specs.Put.{put, put-inner, put-region, length-put, region-out}
 use Rattle.messages.specs.Layout.{cut, width}
 use Rattle.messages.specs.LayoutOffsets.{offset-end, offset-mono}
 use Rattle.messages.specs.LayoutOrder.{InOrder}
-use Rattle.messages.specs.LayoutPuts.{puts, puts-none}
+use Rattle.messages.specs.LayoutPuts.{puts-none}
 use Rattle.messages.specs.LayoutCopy.{copied, length-copied, copyNodes-cut, copied-all}
 use Rattle.messages.specs.LayoutRows.{RowsRead, rows-read}
 use Rattle.messages.specs.LayoutWords.{neighbours-row, copied-next, message-cut}

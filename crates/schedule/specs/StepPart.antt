@@ -2,7 +2,7 @@
 use Prim.Native.Nat.{ℕ, zero, suc, _+_, _-_, _*_, _/_, _≤_, _<_}
 use native.Mathlib.Omega.{arith}
 use mathlib.Core.Path.{_≡_, refl, sym, ap, _∙_}
-use mathlib.Core.Bool.{Bool, true, false}
+use mathlib.Core.Bool.{false}
 use mathlib.Core.List.{List, map}
 use lib.Ieee.{Float, nan}
 use lib.ListN.{length, getD}
@@ -12,17 +12,17 @@ use Rattle.definition.specs.Floats.{_⊕_, _⊗_, clamp}
 use Rattle.definition.specs.Vectors.{Message, entry, binary, normalize}
 use Rattle.definition.specs.NoisyOr.{CpdRow}
 use Rattle.definition.specs.FactorGraph.{Kind, grade, factor, input, tree, Evidence, isInput}
-use Rattle.definition.specs.Directions.{Direction, MessageGraph, nodeAt, directionAt, messageAt, messagesIn}
+use Rattle.definition.specs.Directions.{MessageGraph, nodeAt, directionAt, messageAt, messagesIn}
 use Rattle.definition.specs.Messages.{initialBelief, outMessageVariable, outMessageFactor, outMessageFactorTo, outMessageBy, outMessage}
 use Rattle.list_laws.specs.Part.{region, getD-region, length-region}
 use Rattle.node.specs.Rows.{given, table-given}
-use Rattle.messages.specs.Layout.{cut, width}
-use Rattle.messages.specs.LayoutRows.{RowsRead, rows-read}
+use Rattle.messages.specs.Layout.{cut}
+use Rattle.messages.specs.LayoutRows.{rows-read}
 use Rattle.messages.specs.LayoutWords.{message-cut}
 use Rattle.messages.specs.State.{PartRows, FloatRows, partFloats}
 use Rattle.schedule.specs.StepFloats.{floats-long, in-read}
 use Rattle.schedule.specs.StepPending.{Rows}
-use Rattle.schedule.specs.StepLog.{Words, words-of, PartAt, Along, total-is, node-in}
+use Rattle.schedule.specs.StepLog.{words-of, PartAt, Along, total-is, node-in}
 use Rattle.schedule.specs.StepSingle.{Holder, Sender}
 use Rattle.messages.specs.LayoutOffsets.{offsetAt, offset-two, TwoLong}
 

@@ -1,5 +1,5 @@
 -- What is pending and what waits: what the functions that change them ask and keep.
-use Prim.Native.Nat.{ℕ, zero, suc, _+_, _-_, _*_, _≤_, _<_}
+use Prim.Native.Nat.{ℕ, _+_, _-_, _*_, _≤_, _<_}
 use native.Mathlib.Decide.{ℕ-discrete}
 use native.Mathlib.Omega.{arith}
 use mathlib.Core.Path.{_≡_, refl, sym, ap, _∙_, subst}
@@ -23,7 +23,7 @@ use Rattle.priorities.specs.Waiting.{waiting-set}
 use Rattle.messages.specs.LayoutLists.{getD-any}
 use Rattle.messages.specs.LayoutRows.{RowsRead}
 use Rattle.messages.specs.LayoutWords.{othersTo, others-row, outs-apart}
-use Rattle.messages.specs.LayoutPending.{pending-none, priorities-none, pending-pass, priorities-pass, pending-step, priorities-step, pending-at, pending-before}
+use Rattle.messages.specs.LayoutPending.{priorities-none, priorities-pass, priorities-step, pending-at, pending-before}
 
 -- ---- amounts: no sign, and no NaN
 

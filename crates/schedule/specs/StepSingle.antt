@@ -1,21 +1,21 @@
 -- One message written at a direction, into the messages in force and into the new ones.
-use Prim.Native.Nat.{ℕ, _+_, _-_, _*_, _/_, _≤_, _<_}
+use Prim.Native.Nat.{ℕ, _+_, _-_, _/_, _≤_, _<_}
 use native.Mathlib.Omega.{arith}
 use mathlib.Core.Path.{_≡_, refl, sym, ap, _∙_}
-use mathlib.Core.Logic.{_⊎_, inl, inr}
+use mathlib.Core.Logic.{inl}
 use mathlib.Core.List.{List, [], _∷_}
 use lib.Ieee.{Float, nan}
 use lib.ListN.{length, getD, set}
 use Rattle.definition.specs.Directions.{directionAt, messagesIn, nodeAt}
 use Rattle.list_laws.specs.Part.{region, length-region}
-use Rattle.list_laws.specs.Put.{put, put-set, put-again, put-region, length-put, region-all}
+use Rattle.list_laws.specs.Put.{put, put-set, put-region, length-put, region-all}
 use Rattle.messages.specs.Layout.{cut, width}
 use Rattle.messages.specs.LayoutOffsets.{TwoLong}
 use Rattle.messages.specs.LayoutWords.{message-put, held-pairs}
 use Rattle.messages.specs.Pairs.{pairs}
 use Rattle.messages.specs.State.{FloatRows, partFloats}
 use Rattle.schedule.specs.StepFloats.{Apart, in-put, new-put, in-read}
-use Rattle.schedule.specs.StepLog.{Words, NodeIn, Along, PartAt, total, total-is, node-in}
+use Rattle.schedule.specs.StepLog.{NodeIn, Along, PartAt, total, total-is, node-in}
 
 -- m at direction d, in force and new
 abbrev pub both : List Float → List ℕ → ℕ → List Float → List Float

@@ -1,5 +1,5 @@
 -- One message of a step, for a component: what the code computes by the words is what the definition computes.
-use Prim.Native.Nat.{ℕ, _+_, _-_, _*_, _≤_, _<_}
+use Prim.Native.Nat.{ℕ, _+_, _-_, _≤_, _<_}
 use native.Mathlib.Omega.{arith}
 use mathlib.Core.Path.{_≡_, refl, sym, ap, _∙_, subst}
 use mathlib.Core.Bool.{Bool, true, false}
@@ -9,13 +9,13 @@ use lib.Ieee.{Float, nan}
 use lib.ListN.{length, getD}
 use Rattle.definition.specs.Settings.{Settings}
 use Rattle.definition.specs.Vectors.{Message, binary}
-use Rattle.definition.specs.FactorGraph.{Kind, grade, factor, input, tree, isFactor, isInput, isTree}
+use Rattle.definition.specs.FactorGraph.{Kind, grade, factor, input, tree, isInput, isTree}
 use Rattle.definition.specs.Directions.{MessageNode, MessageGraph, noMessageNode, nodeAt, directionAt, messageAt, messagesIn}
 use Rattle.definition.specs.Messages.{initialBelief, outMessageVariable, outMessageFactor, outMessage}
 use Rattle.graph_laws.specs.AloneChecks.{All-getD}
-use Rattle.graph_laws.specs.MessageLengths.{AsLong, fits as lengths, Along as SoundAlong}
+use Rattle.graph_laws.specs.MessageLengths.{fits as lengths, Along as SoundAlong}
 use Rattle.graph_laws.specs.MessageCounts.{message-messagesIn}
-use Rattle.graph_laws.specs.Sending.{MessageNodeKept, Paired, FactorKept, DirectionKept}
+use Rattle.graph_laws.specs.Sending.{MessageNodeKept, FactorKept, DirectionKept}
 use Rattle.node.specs.Rows.{given}
 use Rattle.list_laws.specs.Part.{region}
 use Rattle.list_laws.specs.Put.{put}

@@ -1,12 +1,12 @@
 -- What a factor's part of a sweep writes in words is what the definition's factor sends.
-use Prim.Native.Nat.{ℕ, zero, suc, _+_, _-_, _*_, _≤_, _<_}
+use Prim.Native.Nat.{ℕ, suc, _+_, _-_, _≤_, _<_}
 use native.Mathlib.Numerals.{add-one}
 use native.Mathlib.Omega.{arith}
 use mathlib.Core.Path.{_≡_, refl, sym, ap, _∙_, subst}
 use mathlib.Core.Bool.{true, false}
 use mathlib.Core.List.{List, [], _∷_, _++_}
 use lib.Ieee.{Float, nan}
-use lib.ListN.{length, getD, take, drop, length-append}
+use lib.ListN.{length, getD, take, length-append}
 use lib.Seq.{drop-cons}
 use Rattle.definition.specs.Vectors.{Message, binary}
 use Rattle.definition.specs.Settings.{Settings}
@@ -22,8 +22,8 @@ use Rattle.list_laws.specs.Put.{put}
 use Rattle.node.specs.Rows.{given}
 use Rattle.messages.specs.Factor.{factor-given}
 use Rattle.messages.specs.Layout.{cut, width, kindCode}
-use Rattle.messages.specs.LayoutOffsets.{longAt, offsetAt, offset-room}
-use Rattle.messages.specs.LayoutPuts.{puts, puts-none, puts-next}
+use Rattle.messages.specs.LayoutOffsets.{offsetAt, offset-room}
+use Rattle.messages.specs.LayoutPuts.{puts-none, puts-next}
 use Rattle.messages.specs.LayoutRows.{RowsRead}
 use Rattle.messages.specs.LayoutWords.{message-cut}
 use Rattle.messages.specs.LayoutWrite.{Takes, sent}

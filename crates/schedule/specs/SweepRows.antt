@@ -3,15 +3,15 @@ use Prim.Native.Nat.{ℕ, zero, suc, _+_, _-_, _*_, _≤_, _<_}
 use native.Mathlib.Omega.{arith}
 use mathlib.Core.Path.{_≡_, refl, sym, ap, _∙_}
 use mathlib.Core.Bool.{Bool, true, false}
-use mathlib.Core.Logic.{_⊎_, inl, inr, ⊎-elim}
-use mathlib.Core.List.{List, [], _∷_, _++_, map, append-assoc}
+use mathlib.Core.Logic.{_⊎_, ⊎-elim}
+use mathlib.Core.List.{List, [], _++_, map, append-assoc}
 use lib.Ieee.{Float}
 use lib.ListN.{length, getD, take, drop, length-drop}
 use lib.Seq.{take-append-le, drop-append-le, take-append-add, drop-append-add}
 use Rattle.definition.specs.Vectors.{Message}
 use Rattle.definition.specs.Settings.{Settings}
 use Rattle.definition.specs.FactorGraph.{Kind, grade, factor, input, tree, isTree}
-use Rattle.definition.specs.Directions.{Direction, MessageNode, MessageGraph, noMessageNode, nodeAt, directionAt, messageAt, messagesIn}
+use Rattle.definition.specs.Directions.{MessageNode, MessageGraph, noMessageNode, nodeAt, directionAt, messageAt, messagesIn}
 use Rattle.definition.specs.Messages.{initialBelief, outMessageVariable, outMessageBy, outMessage, LastBuild, Outgoing, outMessages, outMessagesTree}
 use Rattle.graph_laws.specs.AloneChecks.{All-getD}
 use Rattle.graph_laws.specs.DirectionNumbers.{getD-mapped}
@@ -20,7 +20,7 @@ use Rattle.graph_laws.specs.Sending.{MessageNodeKept}
 use Rattle.list_laws.specs.Part.{region}
 use Rattle.list_laws.specs.Put.{put}
 use Rattle.messages.specs.Layout.{cut, width, kindCode}
-use Rattle.messages.specs.LayoutOffsets.{longAt, offsetAt, TwoLong, span-two, offset-mono, offset-room}
+use Rattle.messages.specs.LayoutOffsets.{offsetAt, TwoLong, span-two, offset-mono, offset-room}
 use Rattle.messages.specs.LayoutCut.{cut-fits}
 use Rattle.messages.specs.LayoutPairs.{pairs}
 use Rattle.messages.specs.LayoutPuts.{puts, puts-ext, length-puts}

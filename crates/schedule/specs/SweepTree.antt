@@ -1,23 +1,23 @@
 -- What a tree's part of a sweep copies in words is what the definition's tree sends, and that it fits.
-use Prim.Native.Nat.{ℕ, zero, suc, _+_, _-_, _*_, _≤_, _<_}
+use Prim.Native.Nat.{ℕ, _+_, _-_, _≤_, _<_}
 use native.Mathlib.Omega.{arith}
-use mathlib.Core.Path.{_≡_, refl, sym, ap, _∙_}
+use mathlib.Core.Path.{_≡_, sym, ap, _∙_}
 use mathlib.Core.Bool.{Bool, true, false}
 use mathlib.Core.Option.{some}
-use mathlib.Core.List.{List, [], _∷_, _++_, map}
+use mathlib.Core.List.{List, [], _++_, map}
 use lib.Ieee.{Float}
 use lib.ListN.{length, getD}
 use Rattle.definition.specs.Vectors.{Message}
 use Rattle.definition.specs.Settings.{Settings}
 use Rattle.definition.specs.FactorGraph.{isTree}
-use Rattle.definition.specs.Directions.{MessageNode, MessageGraph, nodeAt, directionAt, messageAt, messagesIn}
+use Rattle.definition.specs.Directions.{MessageNode, MessageGraph, nodeAt, messageAt, messagesIn}
 use Rattle.definition.specs.Messages.{outMessage, LastBuild, Outgoing, needsRebuild, treeOutMessages, outMessages, outMessagesTree}
 use Rattle.graph_laws.specs.DirectionNumbers.{getD-mapped}
 use Rattle.list_laws.specs.Part.{region}
 use Rattle.messages.specs.Layout.{cut, width}
-use Rattle.messages.specs.LayoutOffsets.{longAt, offsetAt, offset-mono, offset-room}
+use Rattle.messages.specs.LayoutOffsets.{offsetAt, offset-mono, offset-room}
 use Rattle.messages.specs.LayoutCut.{cut-long}
-use Rattle.messages.specs.LayoutPuts.{puts, puts-ext}
+use Rattle.messages.specs.LayoutPuts.{puts-ext}
 use Rattle.messages.specs.LayoutRows.{RowsRead}
 use Rattle.messages.specs.LayoutWords.{sends-there, sends-at, message-cut}
 use Rattle.messages.specs.LayoutWrite.{sent}

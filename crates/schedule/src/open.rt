@@ -1,7 +1,7 @@
 // `Messages::new` and `initialize_messages`: the opening of a part, from nothing but its words, its evidence and the settings.
 ghost use mathlib.Core.Path.{_≡_};
 ghost use mathlib.Core.List.{List};
-ghost use Prim.Native.Nat.{ℕ, _+_, _≤_};
+ghost use Prim.Native.Nat.{_+_, _≤_};
 ghost use lib.Ieee.{Float};
 ghost use lib.ListN.{length, replicate};
 ghost use Rattle.definition.specs.Settings.{Settings};

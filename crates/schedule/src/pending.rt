@@ -1,17 +1,12 @@
 // The residuals that are pending and the queue of what waits, after a step along one direction: `compute_total_residuals`, `compute_priority`.
 ghost use mathlib.Core.Path.{_≡_};
-ghost use mathlib.Core.Option.{Option, none, some};
-ghost use mathlib.Core.List.{List};
-ghost use Prim.Native.Nat.{ℕ, _+_, _≤_, _<_};
+ghost use mathlib.Core.Option.{none, some};
+ghost use Prim.Native.Nat.{_+_, _<_};
 ghost use lib.Dec.{T};
-ghost use lib.Ieee.{Float};
 ghost use lib.ListN.{length, getD, set};
 ghost use Rattle.definition.specs.Floats.{_⊕_, zeroᶠ};
-ghost use Rattle.definition.specs.Directions.{nodeAt, directionAt};
-ghost use Rattle.definition.specs.Run.{addPending, pushPriorities, otherOutgoing};
+ghost use Rattle.definition.specs.Run.{addPending};
 ghost use Rattle.float_laws.specs.Rounded.{clear};
-ghost use Rattle.priorities.specs.Keys.{encoded};
-ghost use Rattle.priorities.specs.Tournament.{Holds};
 ghost use Rattle.messages.specs.LayoutWords.{othersTo};
 ghost use Rattle.schedule.specs.StepPending.{Waiting, Others, Rows, OneKept, AllKept, ResidualAdded};
 

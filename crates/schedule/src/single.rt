@@ -1,6 +1,6 @@
 // One message computed and put in force (`single_message_update`): written into the messages in force and into the new ones.
 ghost use mathlib.Core.Path.{_≡_};
-ghost use Prim.Native.Nat.{_+_, _-_, _*_, _/_, _≤_, _<_};
+ghost use Prim.Native.Nat.{_+_, _-_, _*_, _≤_};
 ghost use lib.Ieee.{nan};
 ghost use lib.ListN.{length, getD};
 ghost use Rattle.definition.specs.Vectors.{binary};
@@ -10,7 +10,7 @@ ghost use Rattle.list_laws.specs.Part.{region};
 ghost use Rattle.list_laws.specs.Put.{put};
 ghost use Rattle.node.specs.Rows.{given};
 ghost use Rattle.messages.specs.Pairs.{pairs};
-ghost use Rattle.schedule.specs.StepLog.{NodeIn, Along, beginsAt, endsAt};
+ghost use Rattle.schedule.specs.StepLog.{Along, beginsAt, endsAt};
 ghost use Rattle.messages.specs.Layout.{cut};
 ghost use Rattle.messages.specs.State.{partFloats};
 ghost use Rattle.schedule.specs.StepSingle.{both, Holder, Sender};

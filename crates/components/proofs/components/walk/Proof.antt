@@ -2,7 +2,7 @@
 use Rattle.components.specs.ComponentWalk.{Walk}
 use Rattle.components.specs.ComponentVisit.{turned-is, turn-asks}
 use mathlib.Core.Path.{_≡_, refl, sym, ap, _∙_}
-use Prim.Native.Nat.{_-_, _+_}
+use Prim.Native.Nat.{_+_}
 use native.Mathlib.Omega.{arith}
 use lib.ListN.{length, length-set}
 use Rattle.components.specs.ComponentMemory.{memory}

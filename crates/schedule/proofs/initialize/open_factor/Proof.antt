@@ -1,6 +1,6 @@
 -- `messages::initialize::open_factor` meets its contract.
-use mathlib.Core.Path.{_≡_, sym, _∙_}
-use Prim.Native.Nat.{_+_, _≤_, _<_}
+use mathlib.Core.Path.{sym, _∙_}
+use Prim.Native.Nat.{_+_, _<_}
 use native.Mathlib.Omega.{arith}
 use lib.ListN.{getD}
 use Rattle.schedule.specs.OpenFactors.{factor-room, kind-read, opened-none, opened-input, opened-sends}

@@ -2,7 +2,7 @@
 use mathlib.Core.Path.{_≡_, sym, ap, _∙_}
 use Prim.Native.Nat.{ℕ, _+_, _-_, _*_}
 use native.Mathlib.Omega.{arith}
-use lib.ListN.{length, getD}
+use lib.ListN.{getD}
 use Rattle.list_laws.specs.Part.{region, length-region}
 use Rattle.messages.specs.Residual.{residualOf}
 use Rattle.schedule.specs.StepLog.{residual-along}

@@ -2,7 +2,7 @@
 use mathlib.Core.Path.{_≡_, refl, ap, _∙_}
 use Prim.Native.Nat.{_+_}
 use native.Mathlib.Omega.{arith}
-use lib.ListN.{length, getD, length-set}
+use lib.ListN.{length, length-set}
 use Rattle.definition.specs.Floats.{zeroᶠ}
 use Rattle.schedule.specs.StepPending.{end-there, residual-others, residual-added-from}
 use borrow.Author.Needs.{needs}

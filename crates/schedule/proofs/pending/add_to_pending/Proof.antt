@@ -1,5 +1,5 @@
 -- `messages::pending::add_to_pending` meets its contract.
-use mathlib.Core.Path.{_≡_, ap, subst}
+use mathlib.Core.Path.{ap, subst}
 use mathlib.Core.Option.{some}
 use lib.Ieee.{Float, nan}
 use lib.ListN.{length, getD, set}

@@ -1,5 +1,5 @@
 -- `messages::pending::clear_pending` meets its contract.
-use mathlib.Core.Path.{_≡_, refl}
+use mathlib.Core.Path.{refl}
 use mathlib.Core.Option.{none}
 use lib.Ieee.{ofBits}
 use lib.ListN.{length}

@@ -1,10 +1,8 @@
 -- `messages::send::send_each` meets its contract: after i turns the first i messages are sent.
 use mathlib.Core.Path.{_≡_, refl, ap, _∙_}
-use mathlib.Core.List.{List}
 use Prim.Native.Nat.{ℕ, _+_, _-_, _≤_}
 use native.Mathlib.Omega.{arith}
 use lib.ListN.{length}
-use lib.Ieee.{Float}
 use Rattle.definition.specs.Vectors.{binary}
 use Rattle.list_laws.specs.Put.{put}
 use Rattle.messages.specs.LayoutPuts.{puts-none}

@@ -1,6 +1,6 @@
 -- `messages::send_tree::scatter` meets its contract: after i turns the first i messages are copied.
 use mathlib.Core.Path.{_≡_, refl, ap, _∙_}
-use Prim.Native.Nat.{ℕ, _+_, _-_, _≤_}
+use Prim.Native.Nat.{_+_, _-_, _≤_}
 use native.Mathlib.Omega.{arith}
 use lib.ListN.{length}
 use Rattle.messages.specs.LayoutPuts.{puts-none}

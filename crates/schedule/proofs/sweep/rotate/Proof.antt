@@ -1,6 +1,6 @@
 -- `messages::sweep::rotate` meets its contract: after i turns the first i floats of each row have changed places.
-use mathlib.Core.Path.{_≡_, refl, ap, _∙_, subst}
-use Prim.Native.Nat.{ℕ, _+_, _-_, _≤_}
+use mathlib.Core.Path.{_≡_, refl, subst}
+use Prim.Native.Nat.{ℕ, _-_, _≤_}
 use native.Mathlib.Omega.{arith}
 use lib.ListN.{length, length-set}
 use Rattle.schedule.specs.SweepRotate.{Rotating, rotating-none, rotating-next, rotated-all}
