@@ -26,6 +26,9 @@ use Rattle.messages.specs.DirectionsRows.{startsOf, directionRows, lengt
 abbrev pub kindsRow : List ℕ → ℕ → List ℕ
 kindsRow w at = region w (at + 2) (getD w at 0)
 
+abbrev pub labelsRow : List ℕ → ℕ → List ℕ
+labelsRow w at = region w (at + 2 + getD w at 0) (getD w at 0)
+
 abbrev pub firstsRow : List ℕ → ℕ → List ℕ
 firstsRow w at = region w (firstsPlace at (getD w at 0)) (getD w at 0 + 1)
 

@@ -1,24 +1,24 @@
 -- What the lent floats and words of a component mean: every content is some state of the definition's schedule.
 use Prim.Native.Nat.{ℕ, zero, suc, _+_, _*_, _≤_, _<_}
 use mathlib.Core.Path.{_≡_}
-use mathlib.Core.Bool.{Bool}
+use mathlib.Core.Bool.{Bool, false}
 use mathlib.Core.Option.{none, some}
 use mathlib.Core.List.{List, [], _∷_, _++_}
 use lib.Ieee.{Float}
 use lib.ListN.{length, getD, take, replicate}
 use Rattle.definition.specs.Floats.{zeroᶠ}
 use Rattle.definition.specs.Settings.{Settings}
-use Rattle.definition.specs.FactorGraph.{Kind, grade, factor, input, tree}
+use Rattle.definition.specs.FactorGraph.{Kind, grade, factor, input, tree, isInput}
 use Rattle.definition.specs.Components.{Subgraph}
 use Rattle.definition.specs.Lists.{range}
 use Rattle.definition.specs.Vectors.{Message}
-use Rattle.definition.specs.Directions.{MessageNode, MessageGraph, nodeAt, messagesIn}
+use Rattle.definition.specs.Directions.{MessageNode, MessageGraph, nodeAt, directionAt, messagesIn}
 use Rattle.definition.specs.Messages.{LastBuild}
 use Rattle.definition.specs.Sweeps.{Store}
 use Rattle.definition.specs.Run.{neighbourNumbers}
 use Rattle.graph_laws.specs.Consistency.{Consistent}
 use Rattle.graph_laws.specs.Sending.{MessageGraphKept}
-use Rattle.messages.specs.Layout.{cut, width, GraphRows}
+use Rattle.messages.specs.Layout.{cut, width, kindCode, GraphRows}
 use Rattle.messages.specs.LayoutOrder.{InOrder}
 
 -- ---- the component that the words stand for
@@ -35,6 +35,12 @@ HasEvidence (factor d) m es = Unit {0}
 HasEvidence (input e) m es = (2 * m + 1 < length es) × (e .absent ≡ getD es (2 * m) zeroᶠ) × (e .present ≡ getD es (2 * m + 1) zeroᶠ)
 HasEvidence (tree d) m es = Unit {0}
 
+-- A factor has two neighbours, and the first is no input.
+pub record FactorShape (t : MessageGraph) (n : ℕ) : Type 0 where
+  pub code : kindCode (nodeAt t n .kind) ≡ 1
+  pub two : length (nodeAt t n .outgoing) ≡ 2
+  pub receiver : isInput (nodeAt t (directionAt t (getD (nodeAt t n .outgoing) 0 0) .end) .kind) ≡ false
+
 -- The rows of words are those of a message graph t that keeps what the run needs, whatever the floats are.
 pub record PartRows (s : Settings) (t : MessageGraph) (kinds firsts starts outs offsets labels : List ℕ) (evidence : List Float) : Type 0 where
   pub rows : GraphRows t kinds firsts starts outs offsets
@@ -42,6 +48,7 @@ pub record PartRows (s : Settings) (t : MessageGraph) (kinds firsts starts outs 
   pub consistent : Consistent subgraph t
   pub in-order : InOrder t
   pub kept : MessageGraphKept (λ m. Unit {0}) s t
+  pub factors : (n : ℕ) → n < length (t .nodes) → kindCode (nodeAt t n .kind) ≡ 1 → FactorShape t n
   pub labels-long : length labels ≡ length (t .nodes)
   pub inputs : (n : ℕ) → n < length (t .nodes) → HasEvidence (nodeAt t n .kind) (getD labels n 0) evidence
 

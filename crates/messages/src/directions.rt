@@ -9,7 +9,7 @@ ghost use Rattle.list_laws.specs.Put.{put};
 ghost use Rattle.messages.specs.DirectionsRecord.{firstsPlace, Recorded};
 ghost use Rattle.messages.specs.DirectionsRows.{directionRows};
 ghost use Rattle.messages.specs.Directions.{farNode, placeInFar, directionStep, StepFits, Filled, Held, Ready};
-ghost use Rattle.messages.specs.DirectionsRead.{kindsRow, firstsRow, startsRow, outsRow, offsetsRow, RecordFits, RowsFit};
+ghost use Rattle.messages.specs.DirectionsRead.{kindsRow, labelsRow, firstsRow, startsRow, outsRow, offsetsRow, RecordFits, RowsFit};
 
 // A word as an index.
 fn word(words: &[u32], i: usize) -> usize
@@ -96,7 +96,7 @@ pub fn fill_directions(words: &mut [u32], at: usize, out: usize)
     }
 }
 
-// ---- the five rows, each a part of the words
+// ---- the rows, each a part of the words
 
 pub fn kinds_row(words: &[u32], at: usize) -> &[u32]
     requires { ⌜ RecordFits (now words) at ⌝ }
@@ -104,6 +104,15 @@ pub fn kinds_row(words: &[u32], at: usize) -> &[u32]
 {
     let nodes = word(words, at);
     let from = at + 2;
+    &words[from..from + nodes]
+}
+
+pub fn labels_row(words: &[u32], at: usize) -> &[u32]
+    requires { ⌜ RecordFits (now words) at ⌝ }
+    ensures { λ r. ⌜ now r ≡ labelsRow (now (words .entry)) at ⌝ }
+{
+    let nodes = word(words, at);
+    let from = at + 2 + nodes;
     &words[from..from + nodes]
 }
 

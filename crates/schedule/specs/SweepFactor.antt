@@ -28,7 +28,7 @@ use Rattle.messages.specs.LayoutRows.{RowsRead}
 use Rattle.messages.specs.LayoutWords.{message-cut}
 use Rattle.messages.specs.LayoutWrite.{Takes, sent}
 use Rattle.messages.specs.LayoutSweeps.{Sends}
-use Rattle.messages.specs.State.{PartRows}
+use Rattle.messages.specs.State.{FactorShape, PartRows}
 use Rattle.schedule.specs.Sweep.{Factoring, factorSent}
 use Rattle.schedule.specs.SweepRows.{puts-middle, region-front, read-rows, position, out-at, plain-at, sends-fit}
 
@@ -100,12 +100,6 @@ by-second (factor d) (tree y) c e s ms o = absurd (let z : _≡_ {A = ℕ} 0 1 =
 region-two : (r : List Float) (a : ℕ) → a + 2 ≤ length r → region r a 2 ≡ binary (getD r a nan) (getD r (a + 1) nan)
 region-two r a h =
     ap (take 2) (drop-cons r a nan (omega arith)) ∙ ap (λ (l : List Float). getD r a nan ∷ take 1 l) (drop-cons r (suc a) nan (omega arith)) ∙ ap (λ (n : ℕ). getD r a nan ∷ getD r n nan ∷ []) (sym (add-one a))
-
--- A factor has two neighbours, and the first is no input.
-pub record FactorShape (t : MessageGraph) (n : ℕ) : Type 0 where
-  pub code : kindCode (nodeAt t n .kind) ≡ 1
-  pub two : length (nodeAt t n .outgoing) ≡ 2
-  pub receiver : isInput (nodeAt t (directionAt t (getD (nodeAt t n .outgoing) 0 0) .end) .kind) ≡ false
 
 module _ (s : Settings) (t : MessageGraph) (kinds firsts starts outs offsets labels : List ℕ) (evidence : List Float) (P : PartRows s t kinds firsts starts outs offsets labels evidence) (n : ℕ) (h : n < length (t .nodes)) (F : FactorShape t n) where
   abbrev x : MessageNode

@@ -1,0 +1,2 @@
+-- What a part's words and floats stand for, and laws of its run.
+pub mod Part

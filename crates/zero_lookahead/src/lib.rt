@@ -1,0 +1,2 @@
+// A part of the graph, in its ranges of the two work slices: opened, swept, stepped, run to its end, and its beliefs.
+pub mod settings;
