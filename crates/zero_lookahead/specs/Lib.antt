@@ -1,2 +1,4 @@
 -- What a part's words and floats stand for, and laws of its run.
 pub mod Part
+pub mod PartKept
+pub mod Variable

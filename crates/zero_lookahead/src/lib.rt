@@ -1,2 +1,4 @@
 // A part of the graph, in its ranges of the two work slices: opened, swept, stepped, run to its end, and its beliefs.
+pub mod belief;
 pub mod settings;
+pub mod words;
