@@ -2,3 +2,8 @@
 pub mod Part
 pub mod PartKept
 pub mod Variable
+pub mod Named
+pub mod AcceptedFactor
+pub mod AcceptedSizes
+pub mod AcceptedWords
+pub mod Accepted

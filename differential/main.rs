@@ -1,0 +1,129 @@
+//! Compares the proved library with the Rust, call by call, in one process. Run by differential/run.
+
+mod compare;
+mod hostile;
+mod library;
+mod shrink;
+mod small;
+mod totals;
+
+use compare::agrees_with;
+use oracle::alone::{entered_alone, parts_of};
+use oracle::call::{Call, Outcome, call, call_with_bounds};
+use oracle::generate::{accepted_call, any_call, limits_call};
+use oracle::random::Random;
+use std::time::{Duration, Instant};
+use totals::Totals;
+
+/// One call compared. With bounds the Rust runs slower, so that they are taken of one call in sixteen.
+fn compared(request: &Call, with_bounds: bool, totals: &mut Totals) -> bool {
+    let (outcome, bounds) = if with_bounds { call_with_bounds(request) } else { (call(request), None) };
+    totals.take(request, &outcome, bounds);
+    agrees_with(request, &outcome)
+}
+
+fn agrees(request: &Call) -> bool {
+    agrees_with(request, &call(request))
+}
+
+/// A call that fails: the smallest that is found, as a text that `oracle call` reads.
+fn report(request: &Call) {
+    let least = shrink::shrink(request, |less| !agrees(less));
+    let text = oracle::text::write_call(&least);
+    let path = "target/differential/failing.call";
+    std::fs::write(path, &text).expect("a file can be written");
+    println!("differs, written to {path}:\n{text}");
+}
+
+fn draw(kind: &str, random: &mut Random) -> Call {
+    match kind {
+        "limits" => limits_call(random),
+        "hostile" => hostile::hostile_call(random),
+        "accepted" => accepted_call(random),
+        _ => any_call(random),
+    }
+}
+
+/// Seeds from `first` on, every `step`-th, until the count or the time is over.
+fn share(kind: &str, first: u64, step: u64, end: u64, until: Option<Instant>) -> (Totals, Option<Call>) {
+    let mut totals = Totals::new();
+    let mut seed = first;
+    while seed < end && until.is_none_or(|at| Instant::now() < at) {
+        let request = draw(kind, &mut Random::new(seed));
+        if !compared(&request, seed % 16 == 0, &mut totals) {
+            return (totals, Some(request));
+        }
+        seed += step;
+    }
+    (totals, None)
+}
+
+fn random_calls(kind: &str, seed: u64, count: u64, seconds: Option<u64>) -> bool {
+    let begun = Instant::now();
+    let until = seconds.map(|s| begun + Duration::from_secs(s));
+    let threads = std::thread::available_parallelism().map_or(1, |n| n.get() as u64);
+    let shares: Vec<(Totals, Option<Call>)> = std::thread::scope(|scope| {
+        let workers: Vec<_> = (0..threads)
+            .map(|i| scope.spawn(move || share(kind, seed + i, threads, seed.saturating_add(count), until)))
+            .collect();
+        workers.into_iter().map(|worker| worker.join().expect("a worker ends")).collect()
+    });
+    let mut totals = Totals::new();
+    shares.iter().for_each(|(own, _)| totals.add(own));
+    let failing = shares.into_iter().find_map(|(_, call)| call);
+    let rate = totals.calls as f64 / begun.elapsed().as_secs_f64();
+    println!("{kind}, seeds from {seed} on: {} calls, {rate:.0} a second\n{totals}", totals.calls);
+    failing.iter().for_each(report);
+    failing.is_none()
+}
+
+fn small_graphs() -> bool {
+    let mut totals = Totals::new();
+    let failing = small::calls().find(|request| !compared(request, true, &mut totals));
+    println!("all graphs of up to 3 grades and 3 markers\n{totals}");
+    failing.iter().for_each(report);
+    failing.is_none()
+}
+
+/// Each part by itself: the library answers it as the Rust answers it alone, and the Rust answers it alone as in the whole.
+fn alone(seed: u64, count: u64) -> bool {
+    let (mut parts, mut calls) = (0, 0);
+    for seed in seed..seed + count {
+        let whole = accepted_call(&mut Random::new(seed));
+        if !matches!(call(&whole), Outcome::Answered { .. }) {
+            continue;
+        }
+        calls += 1;
+        let alone: Vec<Call> = parts_of(&whole).iter().map(|part| entered_alone(&whole, part)).collect();
+        parts += alone.len();
+        let same = agrees(&whole) && oracle::alone::parts_answer_alone(&whole) && alone.iter().all(agrees);
+        if !same {
+            report(&whole);
+            return false;
+        }
+    }
+    println!("parts alone: {parts} parts of {calls} calls agree\n");
+    true
+}
+
+fn number(word: Option<&String>, otherwise: u64) -> u64 {
+    word.map_or(otherwise, |w| w.parse().expect("a number"))
+}
+
+fn main() {
+    let words: Vec<String> = std::env::args().skip(1).collect();
+    let (seed, count) = (number(words.get(1), 0), number(words.get(2), 100_000));
+    let same = match words.first().map(String::as_str) {
+        Some("small") => small_graphs(),
+        Some("alone") => alone(seed, count),
+        Some("seconds") => random_calls("any", seed, u64::MAX, Some(number(words.get(2), 60))),
+        Some(kind @ ("any" | "accepted" | "hostile" | "limits")) => random_calls(kind, seed, count, None),
+        _ => {
+            eprintln!("differential small | alone SEED COUNT | any|accepted|hostile|limits SEED COUNT | seconds SEED SECONDS");
+            std::process::exit(2);
+        }
+    };
+    if !same {
+        std::process::exit(1);
+    }
+}
