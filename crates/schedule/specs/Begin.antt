@@ -21,14 +21,12 @@ use Rattle.graph_laws.specs.Lists.{length-count}
 use Rattle.graph_laws.specs.Invariant.{Holding}
 use Rattle.graph_laws.specs.MessageLengths.{AsLong}
 use Rattle.message_bounds.specs.Residuals.{residual-small}
-use Rattle.priorities.specs.Keys.{encodeKey, encoded}
-use Rattle.list_laws.specs.Part.{region, length-region}
-use Rattle.list_laws.specs.Write.{write, write-ext}
-use Rattle.list_laws.specs.Whole.{write-whole}
-use Rattle.messages.specs.Layout.{cut, width}
+use Rattle.priorities.specs.Keys.{encodeKey, encoded, IsAmount}
+use Rattle.list_laws.specs.Part.{region}
+use Rattle.messages.specs.Layout.{cut}
 use Rattle.messages.specs.LayoutLists.{getD-range}
 use Rattle.messages.specs.LayoutOffsets.{longAt, offsetAt}
-use Rattle.messages.specs.LayoutCut.{cut-at, cut-long}
+use Rattle.messages.specs.LayoutCut.{cut-at}
 use Rattle.schedule.specs.OpenRows.{MessageRow, offset-is, offset-long, offset-end-le}
 use Rattle.messages.specs.Residual.{residualOf, residual-is}
 
@@ -61,6 +59,20 @@ pub key-none : (tolerance r : Float) → lt tolerance r ≡ false → 0 ≡ enco
 unfolding initialPriority
 key-none tolerance r h = sym (ap (λ (b : Bool). encodeKey (cond b (some r) none)) h)
 
+-- ---- what a key can hold
+initial-amount : (tolerance r : Float) → IsAmount (some r) → IsAmount (initialPriority tolerance r)
+unfolding initialPriority
+initial-amount tolerance r h = go (lt tolerance r)
+  where
+    go : (b : Bool) → IsAmount (cond b (some r) none)
+    go true = h
+    go false = tt
+
+all-amounts : (f : ℕ → Option Float) → ((i : ℕ) → IsAmount (f i)) → (ks : List ℕ) (d : ℕ) → IsAmount (getD (map f ks) d none)
+all-amounts f h [] d = tt
+all-amounts f h (k ∷ ks) zero = h k
+all-amounts f h (k ∷ ks) (suc d) = all-amounts f h ks d
+
 -- ---- the keys of all directions are those of the definition's queue
 module _ (s : Settings) (t : MessageGraph) (x : Store) where
   pub begin-long : length (encoded (beginLoop s t x .priorities)) ≡ length (t .directions)
@@ -81,46 +93,22 @@ module _ (s : Settings) (t : MessageGraph) (x : Store) where
       ∙ ap encodeKey (sym (getD-mapped f (range 0 (length (t .directions))) d 0 none n))
       ∙ sym (getD-mapped encodeKey (map f (range 0 (length (t .directions)))) d none 0 (omega (arith, length-map (range 0 (length (t .directions))) f)))
 
--- ---- a row of keys, written from two rows of messages
+  -- each waits with what a key can hold
+  pub begin-amounts : Holding (AsLong t) (x .msgIn) → Holding (AsLong t) (x .msgInLog) → (d : ℕ) → IsAmount (getD (beginLoop s t x .priorities) d none)
+  unfolding beginLoop
+  begin-amounts f g =
+      all-amounts (λ i. initialPriority (s .tolerance) (residual t (x .msgIn) (x .msgInLog) i))
+      (λ i. let r = residual-small t (x .msgIn) (x .msgInLog) i f g in initial-amount (s .tolerance) (residual t (x .msgIn) (x .msgInLog) i) (r .holds, r .clear-sign)) (range 0 (length (t .directions)))
 
-pub record KeyRows (ds : List Direction) (offsets : List ℕ) (messages log : List Float) (keys : List ℕ) : Type 0 where
-  pub is : MessageRow ds offsets messages
-  pub log-long : length log ≡ length messages
-  pub keys-long : length keys ≡ length ds
+-- ---- the messages of a direction, by the offsets
 
-pub record SomeKeyRows (offsets : List ℕ) (messages log : List Float) (keys : List ℕ) : Type 0 where
-  pub directions : List Direction
-  pub rows : KeyRows directions offsets messages log keys
-
-abbrev pub keyAt : Float → List Direction → List Float → List Float → ℕ → ℕ
-keyAt tolerance ds messages log d = initialKey tolerance (messageAt d (cut ds messages)) (messageAt d (cut ds log))
-
-module _ (ds : List Direction) (offsets : List ℕ) (messages log : List Float) (keys : List ℕ) (R : KeyRows ds offsets messages log keys) (d from to : ℕ) (h : d < length ds) (f : from ≡ getD offsets d 0) (g : to ≡ getD offsets (d + 1) 0) where
+module _ (ds : List Direction) (offsets : List ℕ) (messages : List Float) (R : MessageRow ds offsets messages) (d from to : ℕ) (h : d < length ds) (f : from ≡ getD offsets d 0) (g : to ≡ getD offsets (d + 1) 0) where
   long : to - from ≡ longAt ds d
-  long = omega (arith, offset-long ds offsets messages (R .is) d h)
+  long = omega (arith, offset-long ds offsets messages R d h)
 
-  part-is : (r : List Float) → region r from (to - from) ≡ messageAt d (cut ds r)
-  part-is r = ap (λ (n : ℕ). region r n (to - from)) (f ∙ offset-is ds offsets messages (R .is) d) ∙ ap (region r (offsetAt ds d)) long ∙ sym (cut-at ds r d h)
+  pub message-is : (r : List Float) → region r from (to - from) ≡ messageAt d (cut ds r)
+  message-is r = ap (λ (n : ℕ). region r n (to - from)) (f ∙ offset-is ds offsets messages R d) ∙ ap (region r (offsetAt ds d)) long ∙ sym (cut-at ds r d h)
 
-  pub key-is : (tolerance : Float) (k : ℕ) → k ≡ initialKey tolerance (region messages from (to - from)) (region log from (to - from)) → k ≡ keyAt tolerance ds messages log d
-  key-is tolerance k e = e ∙ ap (λ (m : Message). initialKey tolerance m (region log from (to - from))) (part-is messages) ∙ ap (initialKey tolerance (messageAt d (cut ds messages))) (part-is log)
-
-  -- the two parts are in their rows, and as long as each other
-  pub key-room : (from ≤ to) × (to ≤ length messages) × (to ≤ length log) × (1 < length (region messages from (to - from))) × (length (region messages from (to - from)) ≡ length (region log from (to - from)))
-  key-room =
-      let a : from ≤ to = omega (arith, offset-long ds offsets messages (R .is) d h) in
-      let b : to ≤ length messages = omega (arith, offset-end-le ds offsets messages (R .is) d h) in
-      let p : length (region messages from (to - from)) ≡ to - from = length-region messages from (to - from) (omega arith) in
-      let q : length (region log from (to - from)) ≡ to - from = length-region log from (to - from) (omega (arith, R .log-long)) in
-      (a, b, omega (arith, R .log-long), omega (arith, p, long, R .is .wide d h), p ∙ sym q)
-
--- all keys stand: the definition's queue, encoded
-pub begin-keys : (s : Settings) (t : MessageGraph) (x : Store) (messages log : List Float) (keys : List ℕ) → length messages ≡ width (t .directions) → x .msgIn ≡ cut (t .directions) messages → x .msgInLog ≡ cut (t .directions) log → length keys ≡ length (t .directions)
-    → write keys 0 (length (t .directions)) (keyAt (s .tolerance) (t .directions) messages log) ≡ encoded (beginLoop s t x .priorities)
-begin-keys s t x messages log keys e f g l =
-    write-ext keys 0 (length (t .directions)) (keyAt (s .tolerance) (t .directions) messages log) (λ k. getD (encoded (beginLoop s t x .priorities)) k 0)
-    (λ d h.
-    ap (λ (ms : List Message). initialKey (s .tolerance) (messageAt d ms) (messageAt d (cut (t .directions) log))) (sym f)
-    ∙ ap (λ (ms : List Message). initialKey (s .tolerance) (messageAt d (x .msgIn)) (messageAt d ms)) (sym g)
-    ∙ begin-at s t x d h (ap (λ (ms : List Message). length (messageAt d ms)) f ∙ cut-long (t .directions) messages d e h))
-    ∙ write-whole 0 keys (encoded (beginLoop s t x .priorities)) (length (t .directions)) l (begin-long s t x)
+  pub message-room : (from ≤ to) × (to ≤ length messages) × (1 < to - from)
+  message-room =
+      (omega (arith, offset-long ds offsets messages R d h), omega (arith, offset-end-le ds offsets messages R d h), omega (arith, long, R .wide d h))

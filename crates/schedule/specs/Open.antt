@@ -12,12 +12,10 @@ use Rattle.definition.specs.Settings.{Settings}
 use Rattle.definition.specs.Directions.{MessageNode, MessageGraph}
 use Rattle.definition.specs.Messages.{LastBuild}
 use Rattle.definition.specs.Sweeps.{initializeMessages, opening}
-use Rattle.graph_laws.specs.Flat.{flat}
 use Rattle.list_laws.specs.Part.{region, getD-region, length-region}
 use Rattle.list_laws.specs.Put.{put, put-part, put-is, length-put}
 use Rattle.list_laws.specs.Write.{write, length-write, write-in, write-below, write-above}
 use Rattle.messages.specs.Layout.{cut, width}
-use Rattle.messages.specs.LayoutCut.{flat-cut}
 use Rattle.messages.specs.LayoutOffsets.{offset-end}
 use Rattle.messages.specs.State.{PartRows, FloatRows, partFloats, buildsOf, storeOf}
 use Rattle.schedule.specs.OpenRows.{MessageRow, FactorRows, offsets-long, offset-is}
@@ -107,6 +105,13 @@ pub record SomeOpenFloats (kinds firsts starts outs offsets labels : List ℕ) (
   pub rest : List Float
   pub rows : OpenFloats settings graph kinds firsts starts outs offsets labels evidence w msgIn msgInNew msgInLog lastBuilds pending rest
 
+-- afterwards: one row, three times
+pub record Opened (s : Settings) (t : MessageGraph) (rBuild pending rest w : List Float) : Type 0 where
+  pub row : List Float
+  pub long : length row ≡ width (t .directions)
+  pub stands : cut (t .directions) row ≡ initializeMessages s t
+  pub is : w ≡ partFloats row row row rBuild pending rest
+
 module _ {s : Settings} {t : MessageGraph} {kinds firsts starts outs offsets labels : List ℕ} {evidence w rIn rNew rLog rBuild pending rest : List Float} (F : OpenFloats s t kinds firsts starts outs offsets labels evidence w rIn rNew rLog rBuild pending rest) where
   rIn-row : OpenPart s t kinds firsts starts outs offsets labels evidence rIn
   rIn-row = record { part = F .part; long = F .floats .in-long }
@@ -130,14 +135,18 @@ module _ {s : Settings} {t : MessageGraph} {kinds firsts starts outs offsets lab
   -- what the code leaves, by its steps
   pub open-floats : (l n : ℕ) → l ≡ getD offsets (length offsets - 1) 0 → n ≡ l → (x w₁ w₂ w₃ : List Float) → length x ≡ length (region w 0 n) → cut (t .directions) x ≡ initializeMessages s t
       → w₁ ≡ take 0 w ++ (x ++ drop n (drop 0 w)) → w₂ ≡ put w₁ l (region w₁ 0 l) → w₃ ≡ put w₂ (2 * l) (region w₂ 0 l)
-      → w₃ ≡ partFloats (flat (initializeMessages s t)) (flat (initializeMessages s t)) (flat (initializeMessages s t)) rBuild pending rest
+      → Opened s t rBuild pending rest w₃
   open-floats l n e u x w₁ w₂ w₃ o g p q z =
       let f = F .floats in
       let d : l ≡ width (t .directions) = e ∙ row-width in
       let k : length x ≡ width (t .directions) = o ∙ first-row n (u ∙ e) .long in
-      let v : x ≡ flat (initializeMessages s t) = sym (flat-cut (t .directions) x k) ∙ ap flat g in
-      three-rows w rIn rNew rLog (rBuild ++ (pending ++ rest)) x l (F .is) (f .in-long ∙ sym d) (f .new-long ∙ sym d) (f .log-long ∙ sym d) (k ∙ sym d) w₁ w₂ w₃ (p ∙ ap (λ (i : ℕ). take 0 w ++ (x ++ drop i (drop 0 w))) u) q z
-      ∙ ap (λ (y : List Float). y ++ (y ++ (y ++ (rBuild ++ (pending ++ rest))))) v
+      record {
+        row = x;
+        long = k;
+        stands = g;
+        is =
+            three-rows w rIn rNew rLog (rBuild ++ (pending ++ rest)) x l (F .is) (f .in-long ∙ sym d) (f .new-long ∙ sym d) (f .log-long ∙ sym d) (k ∙ sym d) w₁ w₂ w₃ (p ∙ ap (λ (i : ℕ). take 0 w ++ (x ++ drop i (drop 0 w))) u) q z;
+      }
 
 -- ---- and they stand for the definition's store
 

@@ -7,14 +7,12 @@ ghost use lib.ListN.{length, replicate};
 ghost use Rattle.definition.specs.Settings.{Settings};
 ghost use Rattle.definition.specs.Directions.{MessageGraph};
 ghost use Rattle.definition.specs.Sweeps.{initializeMessages};
-ghost use Rattle.graph_laws.specs.Flat.{flat};
 ghost use Rattle.list_laws.specs.Part.{region};
 ghost use Rattle.list_laws.specs.Put.{put};
 ghost use Rattle.array_utils.specs.LogTable.{logTable};
 ghost use Rattle.messages.specs.Layout.{cut};
-ghost use Rattle.messages.specs.State.{partFloats};
 ghost use Rattle.schedule.specs.OpenRows.{FactorSettings};
-ghost use Rattle.schedule.specs.Open.{OpenPart, SomeOpenPart, OpenFloats, SomeOpenFloats};
+ghost use Rattle.schedule.specs.Open.{OpenPart, SomeOpenPart, OpenFloats, SomeOpenFloats, Opened};
 use crate::initialize::fill_initial;
 use crate::initialize::word;
 use crate::passes::open_factors;
@@ -69,7 +67,7 @@ fn copy_row(w: &mut [f32], n: usize, to: usize)
     }
 }
 
-fn clear_words(words: &mut [u32])
+pub fn clear_words(words: &mut [u32])
     ensures { λ _. ⌜ now (words .exit) ≡ replicate (length (now (words .entry))) 0 ⌝ }
 {
     let mut i = 0;
@@ -79,11 +77,10 @@ fn clear_words(words: &mut [u32])
     }
 }
 
-// The messages in force, the new ones and the log are the same, and no tree was built.
+// The messages in force, the new ones and the log are the same. What else the floats hold stays.
 pub fn open_part(
     table: &[f32; 1025],
     w: &mut [f32],
-    flags: &mut [u32],
     kinds: &[u32],
     firsts: &[u32],
     starts: &[u32],
@@ -98,8 +95,7 @@ pub fn open_part(
 )
     requires { ⌜ now table ≡ logTable ⌝ }
     requires { ⌜ SomeOpenFloats (now kinds) (now firsts) (now starts) (now outs) (now offsets) (now labels) (now evidence) (now w) ⌝ }
-    ensures { λ _. ⌜ now (flags .exit) ≡ replicate (length (now (flags .entry))) 0 ⌝ }
-    ensures { λ _. ⌜ ((s : Settings) (t : MessageGraph) (rIn rNew rLog rBuild pending rest : List Float) → OpenFloats s t (now (kinds .entry)) (now (firsts .entry)) (now (starts .entry)) (now (outs .entry)) (now (offsets .entry)) (now (labels .entry)) (now (evidence .entry)) (now (w .entry)) rIn rNew rLog rBuild pending rest → FactorSettings s alpha beta regularised → s .prior ≡ prior → now (w .exit) ≡ partFloats (flat (initializeMessages s t)) (flat (initializeMessages s t)) (flat (initializeMessages s t)) rBuild pending rest) ⌝ }
+    ensures { λ _. ⌜ ((s : Settings) (t : MessageGraph) (rIn rNew rLog rBuild pending rest : List Float) → OpenFloats s t (now (kinds .entry)) (now (firsts .entry)) (now (starts .entry)) (now (outs .entry)) (now (offsets .entry)) (now (labels .entry)) (now (evidence .entry)) (now (w .entry)) rIn rNew rLog rBuild pending rest → FactorSettings s alpha beta regularised → s .prior ≡ prior → Opened s t rBuild pending rest (now (w .exit))) ⌝ }
 {
     let last = offsets.len() - 1;
     let l = word(offsets, last);
@@ -120,5 +116,4 @@ pub fn open_part(
     );
     copy_row(w, l, l);
     copy_row(w, l, 2 * l);
-    clear_words(flags);
 }

@@ -25,7 +25,7 @@ pub(crate) fn copy_down(w: &mut [f32], from: usize, to: usize, n: usize)
     }
 }
 
-pub(crate) fn clear_at(w: &mut [f32], at: usize, n: usize)
+pub fn clear_at(w: &mut [f32], at: usize, n: usize)
     requires { ⌜ at + n ≤ length (now w) ⌝ }
     ensures { λ _. ⌜ now (w .exit) ≡ put (now (w .entry)) at (replicate n zeroᶠ) ⌝ }
 {

@@ -1,4 +1,4 @@
--- `messages::begin::initial_key` meets its contract.
+-- `schedule::begin::initial_key` meets its contract.
 use mathlib.Core.Path.{ap, sym, _∙_, subst}
 use lib.Dec.{T}
 use lib.Ieee.{Float}

@@ -1,4 +1,4 @@
--- `messages::initialize::fill_initial` meets its contract: the messages of the first d directions stand.
+-- `schedule::initialize::fill_initial` meets its contract: the messages of the first d directions stand.
 use mathlib.Core.Path.{_≡_, refl}
 use mathlib.Core.List.{List}
 use Prim.Native.Nat.{ℕ, _+_, _-_, _≤_, _<_}

@@ -1,4 +1,4 @@
--- `messages::initialize::fill_with` meets its contract: after i turns the first i entries are x.
+-- `schedule::initialize::fill_with` meets its contract: after i turns the first i entries are x.
 use mathlib.Core.Path.{_≡_, refl, _∙_, ap}
 use Prim.Native.Nat.{ℕ, _+_, _-_, _≤_}
 use native.Mathlib.Omega.{arith}

@@ -1,4 +1,4 @@
--- `messages::initialize::get_message` meets its contract.
+-- `schedule::initialize::get_message` meets its contract.
 use borrow.Author.Needs.{needs}
 use Rattle.schedule.specs.OpenSends.{region-two}
 use Rattle.schedule.proofs.initialize.get_message.Statement.{statement}

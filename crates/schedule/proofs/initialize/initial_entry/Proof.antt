@@ -1,4 +1,4 @@
--- `messages::initialize::initial_entry` meets its contract.
+-- `schedule::initialize::initial_entry` meets its contract.
 use Prim.Native.Nat.{_≤_}
 use native.Mathlib.Omega.{arith}
 use lib.Ieee.{ofBits}

@@ -1,4 +1,4 @@
--- `messages::initialize::open_factor` meets its contract.
+-- `schedule::initialize::open_factor` meets its contract.
 use mathlib.Core.Path.{sym, _∙_}
 use Prim.Native.Nat.{_+_, _<_}
 use native.Mathlib.Omega.{arith}

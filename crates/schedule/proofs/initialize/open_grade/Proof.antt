@@ -1,4 +1,4 @@
--- `messages::initialize::open_grade` meets its contract.
+-- `schedule::initialize::open_grade` meets its contract.
 use mathlib.Core.Path.{ap, _∙_}
 use mathlib.Core.List.{List}
 use Prim.Native.Nat.{_≤_}

@@ -1,4 +1,4 @@
--- `messages::initialize::put_message` meets its contract.
+-- `schedule::initialize::put_message` meets its contract.
 use borrow.Author.Needs.{needs}
 use Rattle.schedule.specs.OpenSends.{put-two}
 use Rattle.schedule.proofs.initialize.put_message.Statement.{statement}

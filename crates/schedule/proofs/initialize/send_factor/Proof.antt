@@ -1,4 +1,4 @@
--- `messages::initialize::send_factor` meets its contract.
+-- `schedule::initialize::send_factor` meets its contract.
 use Rattle.node.specs.Rows.{given}
 use Rattle.definition.specs.Vectors.{binary}
 use Rattle.schedule.specs.OpenFactors.{factor-put}

@@ -1,4 +1,4 @@
--- `messages::initialize::send_same` meets its contract: the messages to the positions before direction k are sent.
+-- `schedule::initialize::send_same` meets its contract: the messages to the positions before direction k are sent.
 use mathlib.Core.Path.{_≡_, refl}
 use Prim.Native.Nat.{_+_, _-_, _≤_, _<_}
 use native.Mathlib.Omega.{arith}

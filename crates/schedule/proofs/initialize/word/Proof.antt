@@ -1,4 +1,4 @@
--- `messages::initialize::word` meets its contract.
+-- `schedule::initialize::word` meets its contract.
 use native.Mathlib.Omega.{arith}
 use borrow.Author.Needs.{needs}
 use Rattle.schedule.proofs.initialize.word.Statement.{statement}

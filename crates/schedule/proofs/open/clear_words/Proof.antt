@@ -1,4 +1,4 @@
--- `messages::open::clear_words` meets its contract: after i turns the first i words are 0.
+-- `schedule::open::clear_words` meets its contract: after i turns the first i words are 0.
 use mathlib.Core.Path.{_≡_, refl, _∙_, ap}
 use Prim.Native.Nat.{ℕ, _+_, _-_, _≤_}
 use native.Mathlib.Omega.{arith}

@@ -1,4 +1,4 @@
--- `messages::open::copy_row` meets its contract: the first i floats are copied.
+-- `schedule::open::copy_row` meets its contract: the first i floats are copied.
 use mathlib.Core.Path.{_≡_, refl, ap, _∙_}
 use Prim.Native.Nat.{ℕ, _-_, _≤_, _<_}
 use native.Mathlib.Omega.{arith}

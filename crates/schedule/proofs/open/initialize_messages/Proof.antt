@@ -1,4 +1,4 @@
--- `messages::open::initialize_messages` meets its contract.
+-- `schedule::open::initialize_messages` meets its contract.
 use mathlib.Core.Path.{_≡_, ap, _∙_}
 use native.Mathlib.Omega.{arith}
 use borrow.Author.Needs.{needs}

@@ -1,4 +1,4 @@
--- `messages::passes::open_if_factor` meets its contract.
+-- `schedule::passes::open_if_factor` meets its contract.
 use mathlib.Core.Path.{_≡_, sym, _∙_}
 use borrow.Author.Needs.{needs}
 use lib.ListN.{getD}

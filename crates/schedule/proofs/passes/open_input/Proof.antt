@@ -1,4 +1,4 @@
--- `messages::passes::open_input` meets its contract.
+-- `schedule::passes::open_input` meets its contract.
 use mathlib.Core.Path.{_≡_, sym, ap, _∙_}
 use Prim.Native.Nat.{ℕ, _*_}
 use native.Mathlib.Omega.{arith}

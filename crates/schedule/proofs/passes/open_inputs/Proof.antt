@@ -1,4 +1,4 @@
--- `messages::passes::open_inputs` meets its contract: the first n nodes have had their turn.
+-- `schedule::passes::open_inputs` meets its contract: the first n nodes have had their turn.
 use mathlib.Core.Path.{_≡_, refl}
 use Prim.Native.Nat.{_-_, _≤_}
 use native.Mathlib.Omega.{arith}

@@ -1,0 +1,94 @@
+/* How likely each packaging grade is, from the tracer marks read in a bale.
+ *
+ * A bale is a graph: grades (numbered from 0), markers (two evidence floats each, absent then present) and pairs (grade, then
+ * marker: this grade carries this mark). Zero-lookahead belief propagation answers, part by part, a belief for each grade.
+ *
+ * The caller owns all memory. Assumed of the caller, and checked by nothing: each pointer is valid for as many entries as the
+ * length beside it says (a null pointer only with length 0), is aligned for its type, no two lent buffers overlap each other or
+ * the inputs, and `regularised` is 0 or 1. Everything else is checked, and every input is answered. */
+#ifndef PIKAPLATINUM_H
+#define PIKAPLATINUM_H
+
+#include <stdbool.h>
+#include <stddef.h>
+#include <stdint.h>
+
+#ifdef __cplusplus
+extern "C" {
+#endif
+
+/* Why a call is refused. The checks run in this order, and within a number the lowest place wins. A refused call changes no buffer. */
+enum pikaplatinum_refusal {
+    PIKAPLATINUM_ANSWERED = 0,
+    PIKAPLATINUM_TOO_MANY = 1,       /* over 1,024 grades, 1,024 markers or 8,192 pairs; place 0 */
+    PIKAPLATINUM_TOO_SMALL = 2,      /* a lent buffer is shorter than pikaplatinum_sizes says; place 0 */
+    PIKAPLATINUM_PROBABILITY = 3,    /* alpha, beta or prior outside 1/1024 to 1023/1024, or NaN; place 0, 1, 2 */
+    PIKAPLATINUM_STOPPING = 4,       /* tolerance negative or not finite, place 0; loop limit over 1,000,000, place 1 */
+    PIKAPLATINUM_EVIDENCE = 5,       /* an evidence float outside 2^-14 to 1, or NaN; place the marker */
+    PIKAPLATINUM_UNKNOWN = 6,        /* a pair with an unknown grade or marker; place the pair */
+    PIKAPLATINUM_REPEATED = 7,       /* a pair given before; place the later pair */
+    PIKAPLATINUM_CROWDED = 8         /* a marker with over 64 grades; place the marker */
+};
+
+/* How a part's run ended. */
+enum pikaplatinum_ending {
+    PIKAPLATINUM_LIMIT = 0,          /* the loop limit was reached */
+    PIKAPLATINUM_SETTLED = 1,        /* the last residual was within the tolerance */
+    PIKAPLATINUM_EMPTY = 2           /* no direction waited any more */
+};
+
+/* refusal 0: so many beliefs and endings were written. Else the refusal's number and place. */
+struct pikaplatinum_reply {
+    uint32_t refusal;
+    uint32_t place;
+    uint32_t beliefs;
+    uint32_t endings;
+};
+
+/* The least length of each buffer for a bale of so many grades, markers and pairs. */
+struct pikaplatinum_sizes {
+    uint64_t work_floats;
+    uint64_t work_numbers;
+    uint64_t belief_numbers;
+    uint64_t belief_floats;
+    uint64_t ending_numbers;
+    uint64_t ending_floats;
+};
+
+struct pikaplatinum_sizes pikaplatinum_sizes(uint32_t grades, uint32_t markers, uint32_t pairs);
+
+/* One call.
+ *
+ *   alpha, beta     how likely a present grade shows its mark, and how likely a mark is read with no grade present
+ *   prior           how likely a grade is before any mark is read
+ *   regularised     whether the noisy-OR table is regularised
+ *   tolerance       the loop ends when the last residual is at most this
+ *   loop_limit      at most so many turns, the five sweeps counted
+ *   grades          how many grades there are
+ *   evidence        two floats for each marker: how likely the read is where the mark is absent, and where it is present
+ *   pairs           two numbers for each pair: the grade, then the marker
+ *   work_*          scratch; what is needed of it is zero afterwards, the rest is left as it was
+ *   belief_numbers  the grades that have a belief, part by part in the order of the nodes
+ *   belief_floats   of each of them: absent, then present
+ *   ending_numbers  of each part of over 2 nodes: its number, its ending, its scheduled steps, how many beliefs it has
+ *   ending_floats   of each of them the last residual, 0 if empty
+ *
+ * Answers stand at the fronts of their buffers, and what is behind them is left as it was. A part of at most 2 nodes (a grade
+ * without a mark, a marker without a grade) has no belief and no ending. */
+struct pikaplatinum_reply pikaplatinum_calibrate_all_subgraphs(
+    float alpha, float beta, float prior, bool regularised,
+    float tolerance, uint32_t loop_limit, uint32_t grades,
+    const float *evidence, size_t evidence_length,
+    const uint32_t *pairs, size_t pairs_length,
+    float *work_floats, size_t work_floats_length,
+    uint32_t *work_numbers, size_t work_numbers_length,
+    uint32_t *belief_numbers, size_t belief_numbers_length,
+    float *belief_floats, size_t belief_floats_length,
+    uint32_t *ending_numbers, size_t ending_numbers_length,
+    float *ending_floats, size_t ending_floats_length);
+
+#ifdef __cplusplus
+}
+#endif
+
+#endif
