@@ -43,7 +43,7 @@ degreeIn (tree d) = 0
 abbrev Free : Message → Type 0
 Free m = Unit {0}
 
-no-tree : (k : Kind) → kindCode k ≡ 1 → isTree k ≡ false
+pub no-tree : (k : Kind) → kindCode k ≡ 1 → isTree k ≡ false
 no-tree grade c = refl
 no-tree (factor d) c = refl
 no-tree (input e) c = refl

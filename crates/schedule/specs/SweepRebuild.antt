@@ -8,7 +8,7 @@ use mathlib.Core.Bool.{Bool, true, false}
 use mathlib.Core.Option.{none, some}
 use mathlib.Core.List.{List}
 use lib.Ieee.{Float, nan}
-use lib.ListN.{length, getD, set, replicate, length-replicate}
+use lib.ListN.{length, getD, replicate, length-replicate}
 use Rattle.definition.specs.Floats.{zeroᶠ}
 use Rattle.definition.specs.Vectors.{Message}
 use Rattle.definition.specs.Messages.{LastBuild, needsRebuild}
@@ -140,20 +140,10 @@ built-before tolerance zero l from n a b w r e f g h = absurd (e refl)
 built-before tolerance (suc k) l from n a b w r e f g h =
     h ∙ ap (λ (i : ℕ). needsRebuild tolerance (treeRow n (region w from i)) (some (treeRow n (region w (l + l + l + from) b)))) f ∙ ap (λ (i : ℕ). needsRebuild tolerance (treeRow n (region w from (3 * n + 1))) (some (treeRow n (region w (l + l + l + from) i)))) g
 
--- what a tree sends, and the flags afterwards, by whether it is built anew
+-- what a tree sends, by whether it is built anew
 abbrev pub treeSent : Bool → List ℕ → List ℕ → ℕ → ℕ → ℕ → List Float → List Float
 treeSent true outs offsets l f k w = rebuiltSent outs offsets l f k w
 treeSent false outs offsets l f k w = keptSent outs offsets l f w k
-
-abbrev pub treeFlags : Bool → List ℕ → ℕ → List ℕ
-treeFlags true flags node = set flags node 1
-treeFlags false flags node = flags
-
-pub sent-by : (b c : Bool) (outs offsets : List ℕ) (l f k : ℕ) (w r : List Float) → b ≡ c → r ≡ treeSent b outs offsets l f k w → r ≡ treeSent c outs offsets l f k w
-sent-by b c outs offsets l f k w r e g = g ∙ ap (λ (z : Bool). treeSent z outs offsets l f k w) e
-
-pub flags-by : (b c : Bool) (flags : List ℕ) (node : ℕ) (r : List ℕ) → b ≡ c → r ≡ treeFlags b flags node → r ≡ treeFlags c flags node
-flags-by b c flags node r e g = g ∙ ap (λ (z : Bool). treeFlags z flags node) e
 
 pub needs-at : (tolerance : Float) (flag l a b n : ℕ) (w : List Float) (r c : Bool) → a ≡ b → r ≡ needsBuild tolerance flag l a n w → r ≡ c → c ≡ needsBuild tolerance flag l b n w
 needs-at tolerance flag l a b n w r c e f g = sym g ∙ f ∙ ap (λ (i : ℕ). needsBuild tolerance flag l i n w) e

@@ -73,7 +73,7 @@ fn send_each(
 }
 
 // A node with k neighbours, its positions from `first` on. With one neighbour it sends its belief.
-pub(crate) fn send_variable(
+pub fn send_variable(
     table: &[f32; 1025],
     belief: VariableMessage,
     w: &mut [f32],
@@ -100,7 +100,7 @@ pub(crate) fn send_variable(
 }
 
 // A factor, its positions from `first` on: to its grade or tree what it makes of its input's message, and to its input what it sent before.
-pub(crate) fn send_factor(
+pub fn send_factor(
     w: &mut [f32],
     outs: &[u32],
     offsets: &[u32],

@@ -7,7 +7,7 @@ ghost use Rattle.array_utils.specs.LogTable.{logTable};
 ghost use Rattle.list_laws.specs.Part.{region};
 ghost use Rattle.list_laws.specs.Put.{put};
 ghost use Rattle.schedule.specs.SweepBuild.{Building, builtRow};
-ghost use Rattle.schedule.specs.SweepRebuild.{Rebuilding, rebuiltSent, needsBuild, treeSent, treeFlags};
+ghost use Rattle.schedule.specs.SweepRebuild.{Rebuilding, rebuiltSent, needsBuild, treeSent};
 ghost use Rattle.schedule.specs.SweepCopies.{Directed, keptSent, Scattering, scattered};
 use crate::send::copy_up;
 use crate::send::word;
@@ -139,30 +139,29 @@ pub(crate) fn needs_build(
     needs_rebuild(table, tolerance, &w[from..end], &w[old..old_end], n)
 }
 
-// A tree with k neighbours, its positions from `first` on. The node's flag says whether it was built.
-pub(crate) fn send_tree(
+// A tree with k neighbours, its positions from `first` on. The flag says whether it was built before; whether it was built anew.
+pub fn send_tree(
     table: &[f32; 1025],
     tolerance: f32,
     w: &mut [f32],
-    flags: &mut [u32],
     outs: &[u32],
     offsets: &[u32],
     l: usize,
-    node: usize,
+    flag: u32,
     first: usize,
     k: usize,
     scratch: usize,
-)
+) -> bool
     requires { ⌜ now table ≡ logTable ⌝ }
-    requires { ⌜ (node < length (now flags)) × Directed (now outs) (now offsets) l first k (length (now w)) × Rebuilding (now outs) (now offsets) l first k scratch (now w) ⌝ }
-    ensures { λ _. ⌜ now (w .exit) ≡ treeSent (needsBuild tolerance (getD (now (flags .entry)) node 0) l (getD (now (offsets .entry)) first 0) (k - 1) (now (w .entry))) (now (outs .entry)) (now (offsets .entry)) l first k (now (w .entry)) ⌝ }
-    ensures { λ _. ⌜ now (flags .exit) ≡ treeFlags (needsBuild tolerance (getD (now (flags .entry)) node 0) l (getD (now (offsets .entry)) first 0) (k - 1) (now (w .entry))) (now (flags .entry)) node ⌝ }
+    requires { ⌜ Directed (now outs) (now offsets) l first k (length (now w)) × Rebuilding (now outs) (now offsets) l first k scratch (now w) ⌝ }
+    ensures { λ r. ⌜ r ≡ needsBuild tolerance flag l (getD (now (offsets .entry)) first 0) (k - 1) (now (w .entry)) ⌝ }
+    ensures { λ r. ⌜ now (w .exit) ≡ treeSent r (now (outs .entry)) (now (offsets .entry)) l first k (now (w .entry)) ⌝ }
 {
     let from = word(offsets, first);
-    if needs_build(table, tolerance, w, flags[node], l, from, k - 1) {
+    if needs_build(table, tolerance, w, flag, l, from, k - 1) {
         rebuild_tree(w, outs, offsets, l, first, k, scratch);
-        flags[node] = 1;
-        return;
+        return true;
     }
     keep_sent(w, outs, offsets, l, first, k);
+    false
 }

@@ -5,7 +5,7 @@ ghost use lib.ListN.{length};
 ghost use Rattle.schedule.specs.SweepRotate.{rotated};
 
 // The rows change places: the new messages are in force, those that were in force are the log, and the old log is what is written over next.
-pub(crate) fn rotate(w: &mut [f32], l: usize)
+pub fn rotate(w: &mut [f32], l: usize)
     requires { ⌜ l + l + l ≤ length (now w) ⌝ }
     ensures { λ _. ⌜ now (w .exit) ≡ rotated l (now (w .entry)) ⌝ }
 {

@@ -14,4 +14,7 @@ pub mod Open
 pub mod Part
 pub mod PartKept
 pub mod PartOffsets
+pub mod SweepBuilds
+pub mod SweepLoop
+pub mod SweepSend
 pub mod Variable

@@ -4,4 +4,5 @@ pub mod belief;
 pub mod beliefs;
 pub mod open;
 pub mod settings;
+pub mod sweep;
 pub mod words;
