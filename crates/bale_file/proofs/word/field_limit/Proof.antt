@@ -1,0 +1,31 @@
+-- `bale_file::word::field_limit` meets its contract. Each test decides the kind.
+use Rattle.definition.specs.BaleFile.{fieldWidth}
+use Rattle.bale_file.specs.Words.{width-none}
+use Rattle.bale_file.proofs.word.field_limit.Statement.{statement}
+use Rattle.bale_file.proofs.word.field_limit.Tie as tie
+
+returns : tie.Need-returns
+unfolding fieldWidth
+returns c = rw (c .if1 .taken)
+
+returns-2 : tie.Need-returns-2
+unfolding fieldWidth
+returns-2 c = rw (c .if2 .taken)
+
+returns-3 : tie.Need-returns-3
+unfolding fieldWidth
+returns-3 c = rw (c .if3 .taken)
+
+returns-4 : tie.Need-returns-4
+unfolding fieldWidth
+returns-4 c = rw (c .if4 .taken)
+
+returns-5 : tie.Need-returns-5
+unfolding fieldWidth
+returns-5 c = rw (c .if5 .taken)
+
+returns-6 : tie.Need-returns-6
+returns-6 c = rw (width-none _ (c .before .before .before .before .if1 .left) (c .before .before .before .if2 .left) (c .before .before .if3 .left) (c .before .if4 .left) (c .if5 .left))
+
+pub field-limit-spec : {M : Type 1} → statement M
+field-limit-spec = tie.close (tie.spec returns returns-2 returns-3 returns-4 returns-5 returns-6)

@@ -1,0 +1,79 @@
+// The fields of a good word, as the settings and the bale that they stand for.
+ghost use mathlib.Core.Path.{_≡_};
+ghost use Prim.Native.Nat.{_<_};
+ghost use lib.Dec.{eqb};
+ghost use Rattle.definition.specs.BaleFile.{bits, evidenceOf};
+ghost use Rattle.definition.specs.Floats.{ratio};
+
+// Bits 19 to 10: alpha of the rates, the grade of a pair.
+pub fn upper_ten(word: u32) -> u32
+    ensures { λ r. ⌜ (r ≡ bits 20 10 word) × (r < 1024) ⌝ }
+{
+    word % 1048576 / 1024
+}
+
+// Bits 9 to 0: beta of the rates, the prior, the marker of a pair.
+pub fn lower_ten(word: u32) -> u32
+    ensures { λ r. ⌜ (r ≡ bits 10 0 word) × (r < 1024) ⌝ }
+{
+    word % 1024
+}
+
+fn over_1024(n: u32) -> f32
+    requires { ⌜ n < 1024 ⌝ }
+    ensures { λ r. ⌜ r ≡ ratio n 1024 ⌝ }
+{
+    (n as f32) / 1024.0
+}
+
+fn over_16384(n: u32) -> f32
+    requires { ⌜ n < 32768 ⌝ }
+    ensures { λ r. ⌜ r ≡ ratio n 16384 ⌝ }
+{
+    (n as f32) / 16384.0
+}
+
+// Of the word of kind 1.
+pub fn alpha(word: u32) -> f32
+    ensures { λ r. ⌜ r ≡ ratio (bits 20 10 word) 1024 ⌝ }
+{
+    over_1024(upper_ten(word))
+}
+
+// Beta of the word of kind 1, and the prior of that of kind 2.
+pub fn beta(word: u32) -> f32
+    ensures { λ r. ⌜ r ≡ ratio (bits 10 0 word) 1024 ⌝ }
+{
+    over_1024(lower_ten(word))
+}
+
+// Of the word of kind 2.
+pub fn is_regularised(word: u32) -> bool
+    ensures { λ r. ⌜ r ≡ eqb (bits 11 10 word) 1 ⌝ }
+{
+    word % 2048 / 1024 == 1
+}
+
+// Of the word of kind 3.
+pub fn grade_count(word: u32) -> u32
+    ensures { λ r. ⌜ r ≡ bits 11 0 word ⌝ }
+{
+    word % 2048
+}
+
+// Of a word of kind 4. Over 16,384 nothing is left for absent.
+pub fn absent(word: u32) -> f32
+    ensures { λ r. ⌜ r ≡ evidenceOf word .absent ⌝ }
+{
+    let e = word % 32768;
+    if 16384 < e {
+        return over_16384(0);
+    }
+    over_16384(16384 - e)
+}
+
+pub fn present(word: u32) -> f32
+    ensures { λ r. ⌜ r ≡ evidenceOf word .present ⌝ }
+{
+    over_16384(word % 32768)
+}

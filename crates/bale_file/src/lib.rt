@@ -1,0 +1,19 @@
+// The bale file, decoded from bytes that come in pieces of any size. Other crates see what `pub use` names, and nothing else.
+mod bale;
+mod decoder;
+mod fields;
+mod reading;
+mod word;
+
+pub use bale::fill_evidence;
+pub use bale::fill_pairs;
+pub use decoder::Decoder;
+pub use decoder::File;
+pub use decoder::feed;
+pub use decoder::finish;
+pub use decoder::start;
+pub use fields::alpha;
+pub use fields::beta;
+pub use fields::grade_count;
+pub use fields::is_regularised;
+pub use reading::Reading;
