@@ -6,7 +6,7 @@ use mathlib.Core.Path.{_≡_, refl, sym, ap, _∙_, subst}
 use mathlib.Core.Logic.{by-cases}
 use mathlib.Core.Bool.{true, false}
 use mathlib.Core.Option.{Option, none, some}
-use mathlib.Core.List.{List, [], _∷_, _++_}
+use mathlib.Core.List.{List, _++_}
 use lib.Dec.{T}
 use lib.IntN.{ℤ}
 use lib.Ieee.{Float, nan, inf, fin, binary32, add, up, down}
@@ -16,7 +16,7 @@ use Rattle.definition.specs.Floats.{_⊕_, zeroᶠ}
 use Rattle.definition.specs.Directions.{MessageGraph, nodeAt, directionAt}
 use Rattle.definition.specs.Run.{addPending, pushPriorities, otherOutgoing}
 use Rattle.float_laws.specs.Rounded.{clear, round-clear}
-use Rattle.graph_laws.specs.MessageCounts.{length-addTo}
+use Rattle.graph_laws.specs.MessageCounts.{length-addTo, length-wait}
 use Rattle.priorities.specs.Keys.{encodeKey, encoded}
 use Rattle.priorities.specs.Tournament.{padded, tournament, Holds, Queue, length-padded, length-fill}
 use Rattle.priorities.specs.Waiting.{waiting-set}
@@ -117,11 +117,6 @@ sum-clear leaves p words d r W h k =
 pub record AllKept (leaves n : ℕ) (pending : List Float) (os before after : List ℕ) : Type 0 where
   pub waits : (q : List (Option Float)) → length q ≡ n → Holds leaves (encoded q) before → Holds leaves (encoded (pushPriorities pending os q)) after
 
-length-push : (p : List Float) (os : List ℕ) (q : List (Option Float)) → length (pushPriorities p os q) ≡ length q
-unfolding pushPriorities
-length-push p [] q = refl
-length-push p (o ∷ os) q = length-push p os (set q o (some (getD p o zeroᶠ))) ∙ length-set q o (some (getD p o zeroᶠ))
-
 module _ (leaves : ℕ) (outs : List ℕ) (f e d : ℕ) (p : List Float) (O : Others outs f e d (length p)) (r : Float) where
   abbrev lastly : List Float
   lastly = addPending r (othersTo outs f d e) p
@@ -158,7 +153,7 @@ module _ (leaves : ℕ) (outs : List ℕ) (f e d : ℕ) (p : List Float) (O : Ot
             let q′ = pushPriorities lastly (othersTo outs f d k) q in
             subst (λ (v : List (Option Float)). Holds leaves (encoded v) after)
             (ap (λ (y : Float). set q′ o (some y)) x ∙ priorities-step outs f d (O .begins) k h there z lastly q q′ zeroᶠ (omega (arith, length-addTo r (othersTo outs f d e) p)) refl)
-            (S .waits q′ (length-push lastly (othersTo outs f d k) q ∙ y ∙ sym wl) (K .waits q y H)));
+            (S .waits q′ (length-wait lastly (othersTo outs f d k) q ∙ y ∙ sym wl) (K .waits q y H)));
       }
 
 -- ---- a step's residual
@@ -178,9 +173,6 @@ module _ (firsts starts outs : List ℕ) (g : Rows firsts starts outs) (n d : �
 
   way : d < length (g .graph .directions)
   way = omega (arith, Q .outs-long)
-
-  pub end-there : (getD outs d 0 < length starts) × (getD starts (getD outs d 0) 0 + 1 < length firsts)
-  end-there = (omega (arith, Q .out-lt d way, Q .starts-long), (let z = Q .end d way in omega (arith, Q .end-lt d way, Q .firsts-long)))
 
   pub residual-others : Others outs (getD firsts (getD starts (getD outs d 0) 0) 0) (getD firsts (getD starts (getD outs d 0) 0 + 1) 0) d n
   residual-others =

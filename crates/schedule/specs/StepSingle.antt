@@ -6,12 +6,12 @@ use mathlib.Core.Logic.{inl}
 use mathlib.Core.List.{List, [], _∷_}
 use lib.Ieee.{Float, nan}
 use lib.ListN.{length, getD, set}
-use Rattle.definition.specs.Directions.{directionAt, messagesIn, nodeAt}
+use Rattle.definition.specs.Directions.{messagesIn, nodeAt}
 use Rattle.list_laws.specs.Part.{region, length-region}
 use Rattle.list_laws.specs.Put.{put, put-set, put-region, length-put, region-all}
 use Rattle.messages.specs.Layout.{cut, width}
 use Rattle.messages.specs.LayoutOffsets.{TwoLong}
-use Rattle.messages.specs.LayoutWords.{message-put, held-pairs}
+use Rattle.messages.specs.LayoutWords.{held-pairs}
 use Rattle.messages.specs.Pairs.{pairs}
 use Rattle.messages.specs.State.{FloatRows, partFloats}
 use Rattle.schedule.specs.StepFloats.{Apart, in-put, new-put, in-read}
@@ -92,12 +92,6 @@ module _ (firsts starts offsets : List ℕ) (w : List Float) (p : PartAt firsts 
   room : o + length m ≤ width ds
   room = omega (arith, D .two, D .ends, total-is firsts starts offsets (p .words))
 
-  way : d < length ds
-  way = omega (arith, D .there, p .words .read .offsets-long)
-
-  asLong : length m ≡ directionAt (p .words .graph) d .messageLength
-  asLong = omega (arith, long, D .two, p .words .read .offset-next d way)
-
   -- the two rows
   pub both-rows : both w offsets d m ≡ partFloats (put (p .rIn) (getD offsets d 0) m) (put (p .rNew) (getD offsets d 0) m) (p .rLog) (p .rBuild) (p .pending) (p .rest)
   both-rows =
@@ -110,13 +104,6 @@ module _ (firsts starts offsets : List ℕ) (w : List Float) (p : PartAt firsts 
       ∙ ap (λ (v : List Float). put (put v o m) (width ds + o) m) (p .is)
       ∙ ap (λ (v : List Float). put v (width ds + o) m) (in-put t (p .rIn) (p .rNew) (p .rLog) (p .rBuild) (p .pending) (p .rest) F o m room)
       ∙ new-put t (put (p .rIn) o m) (p .rNew) (p .rLog) (p .rBuild) (p .pending) (p .rest) F′ o m room
-
-  -- which are the definition's message sets with m at direction d
-  pub both-in : cut (p .words .graph .directions) (put (p .rIn) (getD offsets d 0) m) ≡ set (cut (p .words .graph .directions) (p .rIn)) d m
-  both-in = message-put (p .words .graph) (p .words .kinds) firsts starts (p .words .outs) offsets (p .words .read) d way (p .rIn) m (p .floats .in-long) asLong
-
-  pub both-new : cut (p .words .graph .directions) (put (p .rNew) (getD offsets d 0) m) ≡ set (cut (p .words .graph .directions) (p .rNew)) d m
-  both-new = message-put (p .words .graph) (p .words .kinds) firsts starts (p .words .outs) offsets (p .words .read) d way (p .rNew) m (p .floats .new-long) asLong
 
 -- the messages that a variable holds
 pub held-in : (firsts starts offsets : List ℕ) (w : List Float) (p : PartAt firsts starts offsets w) (n : ℕ) → n + 1 < length firsts

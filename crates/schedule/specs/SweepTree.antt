@@ -28,7 +28,7 @@ use Rattle.schedule.specs.SweepRows.{puts-middle, region-front, read-row
 
 -- ---- the definition's tree, by whether it is built anew
 module _ (s : Settings) (t : MessageGraph) (ms : List Message) (x : MessageNode) (b : LastBuild) (e : isTree (x .kind) ≡ true) where
-  of-tree : outMessages s t ms x b ≡ outMessagesTree s ms x b
+  pub of-tree : outMessages s t ms x b ≡ outMessagesTree s ms x b
   unfolding outMessages
   of-tree =
       ap (λ (c : Bool). elim c as (λ (z : Bool). Outgoing) [ true ↦ outMessagesTree s ms x b | false ↦ record { messages = map (outMessage s t ms) (x .outgoing); lastBuild = b } ]) e

@@ -68,7 +68,7 @@ fn copy_around(
 }
 
 // How many floats a row has.
-pub(crate) fn row_len(offsets: &[u32]) -> usize
+pub fn row_len(offsets: &[u32]) -> usize
     requires { ⌜ 0 < length (now offsets) ⌝ }
     ensures { λ r. ⌜ r ≡ total (now (offsets .entry)) ⌝ }
 {

@@ -5,13 +5,11 @@ ghost use Prim.Native.Nat.{_+_, _<_};
 ghost use lib.Dec.{T};
 ghost use lib.ListN.{length, getD, set};
 ghost use Rattle.definition.specs.Floats.{_⊕_, zeroᶠ};
-ghost use Rattle.definition.specs.Run.{addPending};
 ghost use Rattle.float_laws.specs.Rounded.{clear};
-ghost use Rattle.messages.specs.LayoutWords.{othersTo};
-ghost use Rattle.schedule.specs.StepPending.{Waiting, Others, Rows, OneKept, AllKept, ResidualAdded};
+ghost use Rattle.schedule.specs.StepPending.{Waiting, OneKept};
 
 // Nothing is pending for direction d any more, and it waits no more.
-fn clear_pending(pending: &mut [f32], words: &mut [u32], leaves: usize, d: usize)
+pub fn clear_pending(pending: &mut [f32], words: &mut [u32], leaves: usize, d: usize)
     requires { ⌜ Waiting leaves (now pending) (now words) ⌝ }
     requires { ⌜ d < length (now pending) ⌝ }
     ensures { λ _. ⌜ Waiting leaves (now (pending .exit)) (now (words .exit)) ⌝ }
@@ -23,7 +21,7 @@ fn clear_pending(pending: &mut [f32], words: &mut [u32], leaves: usize, d: usize
 }
 
 // The residual is pending for direction d too, and it waits with all that is pending for it.
-fn add_to_pending(pending: &mut [f32], words: &mut [u32], leaves: usize, d: usize, r: f32)
+pub fn add_to_pending(pending: &mut [f32], words: &mut [u32], leaves: usize, d: usize, r: f32)
     requires { ⌜ Waiting leaves (now pending) (now words) ⌝ }
     requires { ⌜ (d < length (now pending)) × T (clear r) ⌝ }
     ensures { λ _. ⌜ Waiting leaves (now (pending .exit)) (now (words .exit)) ⌝ }
@@ -35,66 +33,10 @@ fn add_to_pending(pending: &mut [f32], words: &mut [u32], leaves: usize, d: usiz
     priorities::set(words, leaves, d, priorities::key_of(sum));
 }
 
-// The residual of direction d is pending for each direction at the words from `from` on but for that at d: every other one by which the end of d sends.
-fn add_to_others(
-    pending: &mut [f32],
-    words: &mut [u32],
-    leaves: usize,
-    outs: &[u32],
-    from: usize,
-    to: usize,
-    d: usize,
-    r: f32,
-)
-    requires { ⌜ Waiting leaves (now pending) (now words) ⌝ }
-    requires { ⌜ Others (now outs) from to d (length (now pending)) × T (clear r) ⌝ }
-    ensures { λ _. ⌜ Waiting leaves (now (pending .exit)) (now (words .exit)) ⌝ }
-    ensures { λ _. ⌜ now (pending .exit) ≡ addPending r (othersTo (now (outs .entry)) from d to) (now (pending .entry)) ⌝ }
-    ensures { λ _. ⌜ AllKept leaves (length (now (pending .entry))) (now (pending .exit)) (othersTo (now (outs .entry)) from d to) (now (words .entry)) (now (words .exit)) ⌝ }
-{
-    let mut k = from;
-    while k < to {
-        if k != d {
-            add_to_pending(pending, words, leaves, outs[k] as usize, r);
-        }
-        k += 1;
-    }
-}
-
 // Where direction d ends: where the one back starts.
 pub(crate) fn end_of(starts: &[u32], outs: &[u32], d: usize) -> usize
     requires { ⌜ (d < length (now outs)) × (getD (now outs) d 0 < length (now starts)) ⌝ }
     ensures { λ r. ⌜ r ≡ getD (now (starts .entry)) (getD (now (outs .entry)) d 0) 0 ⌝ }
 {
     starts[outs[d] as usize] as usize
-}
-
-// After a step along direction d with residual r.
-pub fn add_residual(
-    pending: &mut [f32],
-    words: &mut [u32],
-    leaves: usize,
-    firsts: &[u32],
-    starts: &[u32],
-    outs: &[u32],
-    d: usize,
-    r: f32,
-)
-    requires { ⌜ Waiting leaves (now pending) (now words) ⌝ }
-    requires { ⌜ Rows (now firsts) (now starts) (now outs) × (length (now outs) ≡ length (now pending)) × (d < length (now pending)) × T (clear r) ⌝ }
-    ensures { λ _. ⌜ Waiting leaves (now (pending .exit)) (now (words .exit)) ⌝ }
-    ensures { λ _. ⌜ ((g : Rows (now (firsts .entry)) (now (starts .entry)) (now (outs .entry))) → ResidualAdded (g .graph) leaves d r (now (pending .entry)) (now (words .entry)) (now (pending .exit)) (now (words .exit))) ⌝ }
-{
-    clear_pending(pending, words, leaves, d);
-    let end = end_of(starts, outs, d);
-    add_to_others(
-        pending,
-        words,
-        leaves,
-        outs,
-        firsts[end] as usize,
-        firsts[end + 1] as usize,
-        d,
-        r,
-    );
 }

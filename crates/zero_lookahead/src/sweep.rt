@@ -69,7 +69,7 @@ fn send_from_factor(
 }
 
 // Whether the tree was built anew.
-fn send_from_tree(
+pub(crate) fn send_from_tree(
     table: &[f32; 1025],
     w: &mut [f32],
     words: &[u32],
