@@ -1,0 +1,2 @@
+-- What the exported functions answer, tied to the definition.
+pub mod Reply
