@@ -38,6 +38,10 @@ unfolding powiFrom
 power-half a b zero h = absurd (h refl)
 power-half a b (suc n) h = power-more (suc n / 2) n (cond (eqb (suc n % 2) 1) (a ⊗ b) a) (b ⊗ b) (suc n / 2) (omega arith) (omega arith)
 
+pub power-one : (a b : Float) (n : ℕ) → n ≡ 1 → a ⊗ b ≡ powerFrom a b n
+unfolding powiFrom
+power-one a b n e = ap (λ (k : ℕ). powiFrom k a b k) (sym e)
+
 pub power-odd : (a b : Float) (n : ℕ) → (n ≡ 0 → ⊥) → n % 2 ≡ 1 → powerFrom (a ⊗ b) (b ⊗ b) (n / 2) ≡ powerFrom a b n
 power-odd a b n h e = ap (λ (k : ℕ). powerFrom (cond (eqb k 1) (a ⊗ b) a) (b ⊗ b) (n / 2)) (sym e) ∙ power-half a b n h
 

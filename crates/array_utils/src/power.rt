@@ -9,6 +9,10 @@ fn powi_from(acc: f32, base: f32, n: u32) -> f32
     if n == 0 {
         return acc;
     }
+    // The square would go unused, and it may be subnormal, which is slow.
+    if n == 1 {
+        return acc * base;
+    }
     if n % 2 == 1 {
         powi_from(acc * base, base * base, n / 2)
     } else {

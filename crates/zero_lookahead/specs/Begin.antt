@@ -24,8 +24,8 @@ use Rattle.priorities.specs.Tournament.{tournament, Holds, holds-filled}
 use Rattle.messages.specs.Layout.{width}
 use Rattle.messages.specs.LayoutCut.{cut-long}
 use Rattle.messages.specs.State.{storeOf, partFloats, FloatRows}
-use Rattle.schedule.specs.Begin.{begin-long, begin-amounts}
-use Rattle.schedule.specs.StepFloats.{pending-put}
+use Rattle.opening.specs.Begin.{begin-long, begin-amounts}
+use Rattle.steps.specs.StepFloats.{pending-put}
 use Rattle.zero_lookahead.specs.Part.{rowsEnd, flagsRow, leavesIn, queueAt, queueRow, PartWords, Stands, Runs, KeptFront}
 use Rattle.zero_lookahead.specs.PartKept.{region-same, part-kept, nodes-kept, edges-kept, leaves-kept, queue-part, queue-front, queue-flags, queue-is}
 use Rattle.zero_lookahead.specs.PartOffsets.{width-is}

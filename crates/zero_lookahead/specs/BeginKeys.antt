@@ -16,9 +16,9 @@ use Rattle.messages.specs.Layout.{cut, width}
 use Rattle.messages.specs.LayoutCut.{cut-long}
 use Rattle.messages.specs.DirectionsRead.{offsetsRow}
 use Rattle.messages.specs.State.{storeOf}
-use Rattle.schedule.specs.OpenRows.{MessageRow}
-use Rattle.schedule.specs.Begin.{initialKey, begin-long, begin-at, message-is, message-room}
-use Rattle.schedule.specs.StepFloats.{in-read, log-read, floats-long}
+use Rattle.opening.specs.OpenRows.{MessageRow}
+use Rattle.opening.specs.Begin.{initialKey, begin-long, begin-at, message-is, message-room}
+use Rattle.steps.specs.StepFloats.{in-read, log-read, floats-long}
 use Rattle.zero_lookahead.specs.declared.settings.Settings.{Settings}
 use Rattle.zero_lookahead.specs.Part.{Given, Stands}
 use Rattle.zero_lookahead.specs.PartOffsets.{width-is, offset-word, message-row}

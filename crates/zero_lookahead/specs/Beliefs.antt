@@ -13,7 +13,7 @@ use Rattle.definition.specs.Answer.{beliefsAmong}
 use Rattle.messages.specs.Layout.{cut, width}
 use Rattle.messages.specs.DirectionsRead.{kindsRow, labelsRow, firstsRow, startsRow, outsRow, offsetsRow}
 use Rattle.messages.specs.State.{PartRows, storeOf}
-use Rattle.schedule.specs.StepLog.{NodeIn, beginsAt, endsAt}
+use Rattle.steps.specs.StepLog.{NodeIn, beginsAt, endsAt}
 use Rattle.zero_lookahead.specs.Part.{Stands}
 use Rattle.zero_lookahead.specs.Named.{Named}
 

@@ -26,8 +26,8 @@ use Rattle.messages.specs.LayoutPairs.{pairs, length-rowIn-two}
 use Rattle.messages.specs.LayoutRows.{RowsRead}
 use Rattle.messages.specs.LayoutWords.{inside-row, row-in, held-pairs}
 use Rattle.messages.specs.LayoutKinds.{grade-two}
-use Rattle.schedule.specs.SweepRows.{region-front, read-rows, variable-fits}
-use Rattle.schedule.specs.StepLog.{words-of, NodeIn, node-in, total-is, beginsAt, endsAt}
+use Rattle.sweeps.specs.SweepRows.{region-front, read-rows, variable-fits}
+use Rattle.steps.specs.StepLog.{words-of, NodeIn, node-in, total-is, beginsAt, endsAt}
 use Rattle.zero_lookahead.specs.Named.{isGradeNode}
 use Rattle.zero_lookahead.specs.Beliefs.{Held, BeliefRows}
 

@@ -14,7 +14,7 @@ use Rattle.definition.specs.Messages.{initialBelief}
 use Rattle.definition.specs.Answer.{Belief, marginal, beliefsAmong, beliefFloats}
 use Rattle.list_laws.specs.Part.{region}
 use Rattle.messages.specs.Pairs.{pairs}
-use Rattle.schedule.specs.StepLog.{beginsAt, endsAt}
+use Rattle.steps.specs.StepLog.{beginsAt, endsAt}
 use Rattle.zero_lookahead.specs.Named.{Believed}
 use Rattle.zero_lookahead.specs.Beliefs.{BeliefRows}
 use Rattle.zero_lookahead.specs.BeliefsGrade.{grade-marginal, grade-next, grade-room, other-next}

@@ -16,8 +16,8 @@ use Rattle.list_laws.specs.Put.{put, put-part}
 use Rattle.messages.specs.Layout.{width}
 use Rattle.messages.specs.DirectionsRead.{kindsRow, labelsRow, firstsRow, startsRow, outsRow, offsetsRow}
 use Rattle.messages.specs.State.{scratchFloats, partFloats, FloatRows, storeOf}
-use Rattle.schedule.specs.OpenRows.{FactorSettings}
-use Rattle.schedule.specs.Open.{OpenFloats, Opened, opening-store}
+use Rattle.opening.specs.OpenRows.{FactorSettings}
+use Rattle.opening.specs.Open.{OpenFloats, Opened, opening-store}
 use Rattle.zero_lookahead.specs.declared.settings.Settings.{Settings}
 use Rattle.zero_lookahead.specs.Part.{Given, rowsEnd, PartWords, Room, Stands}
 use Rattle.zero_lookahead.specs.PartKept.{flags-part, flags-are}

@@ -11,7 +11,7 @@ use Rattle.list_laws.specs.Part.{getD-region}
 use Rattle.messages.specs.Layout.{offsetsFrom, width}
 use Rattle.messages.specs.LayoutOffsets.{offset-end}
 use Rattle.messages.specs.DirectionsRead.{offsetsRow}
-use Rattle.schedule.specs.OpenRows.{MessageRow}
+use Rattle.opening.specs.OpenRows.{MessageRow}
 use Rattle.zero_lookahead.specs.Part.{PartWords}
 
 abbrev pub widthIn : List ℕ → ℕ → ℕ

@@ -17,9 +17,9 @@ use Rattle.definition.specs.Run.{State, Ended, limit, settled, empty, beginLoop
 use Rattle.definition.specs.Run as run
 use Rattle.graph_laws.specs.Highest.{top-highest}
 use Rattle.messages.specs.State.{changedOf, all}
-use Rattle.schedule.specs.StepChanged.{changedFrom}
-use Rattle.schedule.specs.declared.log.Changed.{Changed}
-use Rattle.schedule.specs.declared.log.Changed.the-variants.{All}
+use Rattle.steps.specs.StepChanged.{changedFrom}
+use Rattle.steps.specs.declared.log.Changed.{Changed}
+use Rattle.steps.specs.declared.log.Changed.the-variants.{All}
 use Rattle.zero_lookahead.specs.Part.{Given, Stands, Runs}
 use Rattle.zero_lookahead.specs.Ending.{endingFrom, Ends}
 use Rattle.zero_lookahead.specs.declared.settings.Settings.{Settings}

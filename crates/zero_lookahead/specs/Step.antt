@@ -25,9 +25,9 @@ use Rattle.priorities.specs.Leaves.{leavesFor, leaves-full, leaves-enough}
 use Rattle.priorities.specs.Keys.{encoded, IsAmount}
 use Rattle.priorities.specs.Tournament.{Holds}
 use Rattle.priorities.specs.Waiting.{waiting-queue}
-use Rattle.schedule.specs.StepFloats.{floats-long, pending-put, pending-read}
-use Rattle.schedule.specs.StepLog.{total-is}
-use Rattle.schedule.specs.StepPending.{Waiting, ResidualAdded}
+use Rattle.steps.specs.StepFloats.{floats-long, pending-put, pending-read}
+use Rattle.steps.specs.StepLog.{total-is}
+use Rattle.steps.specs.StepPending.{Waiting, ResidualAdded}
 use Rattle.zero_lookahead.specs.Part.{flagsRow, leavesIn, queueAt, queueRow, PartWords, Stands, Runs, KeptFront}
 use Rattle.zero_lookahead.specs.PartKept.{queue-part, queue-front, queue-flags, queue-is}
 use Rattle.zero_lookahead.specs.StepAdded.{pendingAt, pendingRow, AddingAlong, AddedAlong}

@@ -17,9 +17,9 @@ use Rattle.list_laws.specs.Part.{region, length-region}
 use Rattle.list_laws.specs.Put.{put, put-part, region-all}
 use Rattle.messages.specs.DirectionsRead.{kindsRow, labelsRow, firstsRow, startsRow, outsRow, offsetsRow}
 use Rattle.messages.specs.LayoutWords.{othersTo}
-use Rattle.schedule.specs.StepLog.{total}
-use Rattle.schedule.specs.StepPart.{rows-of}
-use Rattle.schedule.specs.StepPending.{Waiting, OneKept, AllKept, Others, ResidualAdded, residual-others, residual-added-from}
+use Rattle.steps.specs.StepLog.{total}
+use Rattle.steps.specs.StepPart.{rows-of}
+use Rattle.steps.specs.StepPending.{Waiting, OneKept, AllKept, Others, ResidualAdded, residual-others, residual-added-from}
 use Rattle.zero_lookahead.specs.Part.{leavesIn, queueAt, queueRow, PartWords}
 use Rattle.zero_lookahead.specs.StepReads.{SomePart, reads}
 use Rattle.zero_lookahead.specs.StepQueue.{WaitingAt, OnlyAt, OthersAt, only-row, only-next}

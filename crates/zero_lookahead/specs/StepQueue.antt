@@ -10,7 +10,7 @@ use lib.ListN.{length, getD, take, drop}
 use Rattle.list_laws.specs.Part.{region, length-region, getD-region}
 use Rattle.list_laws.specs.Put.{put, put-part, length-put, put-below, put-again, put-region, region-all, region-out}
 use Rattle.messages.specs.DirectionsRead.{part-is}
-use Rattle.schedule.specs.StepPending.{Waiting, OneKept, Others, waiting-words}
+use Rattle.steps.specs.StepPending.{Waiting, OneKept, Others, waiting-words}
 
 -- a queue with its leaves in the words from `queue` on
 pub record WaitingAt (queue leaves : ℕ) (pending : List Float) (words : List ℕ) : Type 0 where

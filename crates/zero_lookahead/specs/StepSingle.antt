@@ -23,8 +23,8 @@ use Rattle.messages.specs.LayoutRows.{RowsRead}
 use Rattle.messages.specs.LayoutWords.{message-put}
 use Rattle.messages.specs.DirectionsRead.{kindsRow, labelsRow, firstsRow, startsRow, outsRow, offsetsRow}
 use Rattle.messages.specs.State.{partFloats, storeOf, buildsOf}
-use Rattle.schedule.specs.SweepRows.{IsVariable}
-use Rattle.schedule.specs.StepUpdate.{SingleAt}
+use Rattle.sweeps.specs.SweepRows.{IsVariable}
+use Rattle.steps.specs.StepUpdate.{SingleAt}
 use Rattle.zero_lookahead.specs.declared.settings.Settings.{Settings}
 use Rattle.zero_lookahead.specs.Part.{Given, flagsRow, queueRow, PartWords, Stands}
 use Rattle.zero_lookahead.specs.StepReads.{reads, start-way, start-is, start-node}

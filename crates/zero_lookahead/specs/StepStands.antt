@@ -19,8 +19,8 @@ use Rattle.messages.specs.LayoutCopy.{length-copied}
 use Rattle.messages.specs.LayoutCut.{cut-long}
 use Rattle.messages.specs.DirectionsRead.{kindsRow, labelsRow, firstsRow, startsRow, outsRow, offsetsRow}
 use Rattle.messages.specs.State.{partFloats, buildsOf, storeOf, Changed, changedOf}
-use Rattle.schedule.specs.StepLog.{PartAt, Along, Within, logged, taken, logged-cut, taken-cut}
-use Rattle.schedule.specs.StepPart.{part-at, along-of}
+use Rattle.steps.specs.StepLog.{PartAt, Along, Within, logged, taken, logged-cut, taken-cut}
+use Rattle.steps.specs.StepPart.{part-at, along-of}
 use Rattle.zero_lookahead.specs.Part.{flagsRow, queueRow, Stands}
 use Rattle.zero_lookahead.specs.StepReads.{reads}
 

@@ -24,9 +24,9 @@ use Rattle.messages.specs.LayoutSweeps.{Sends, setMessages-sends, length-sends}
 use Rattle.messages.specs.LayoutWrite.{sent}
 use Rattle.messages.specs.DirectionsRead.{kindsRow, labelsRow, firstsRow, startsRow, outsRow, offsetsRow}
 use Rattle.messages.specs.State.{storeOf, buildOf, buildsOf}
-use Rattle.schedule.specs.SweepNode.{builtIn, flagAfter, sentBy, NodeSent}
-use Rattle.schedule.specs.SweepRows.{sends-fit}
-use Rattle.schedule.specs.SweepTree.{of-tree}
+use Rattle.sweeps.specs.SweepNode.{builtIn, flagAfter, sentBy, NodeSent}
+use Rattle.sweeps.specs.SweepRows.{sends-fit}
+use Rattle.sweeps.specs.SweepTree.{of-tree}
 use Rattle.zero_lookahead.specs.Part.{rowsEnd, flagsRow, queueRow, PartWords, Stands, KeptFront}
 use Rattle.zero_lookahead.specs.PartKept.{flags-part, flags-front, flags-are, flags-queue, flag-set, flag-set-long}
 use Rattle.zero_lookahead.specs.StepStands.{SomeStands, StandsWith, takenStore}

@@ -20,7 +20,7 @@ use Rattle.messages.specs.LayoutCut.{rowIn, directionsIn, length-rowIn, message
 use Rattle.messages.specs.LayoutOrder.{firsts-at, InOrder, firsts-mono, inside}
 use Rattle.messages.specs.LayoutWrite.{length-put-in}
 use Rattle.messages.specs.State.{buildOf, buildsOf}
-use Rattle.schedule.specs.SweepNode.{builtIn, flagAfter}
+use Rattle.sweeps.specs.SweepNode.{builtIn, flagAfter}
 
 pub length-builds : (xs : List MessageNode) (fs : List ℕ) (ms : List Message) → length fs ≡ length xs → length (buildsOf xs fs ms) ≡ length xs
 length-builds [] fs ms h = refl

@@ -23,9 +23,9 @@ use Rattle.messages.specs.LayoutWrite.{sent}
 use Rattle.messages.specs.LayoutSweeps.{Sends, length-sends, builds-next, update-row}
 use Rattle.messages.specs.DirectionsRead.{kindsRow, labelsRow, firstsRow, startsRow, outsRow, offsetsRow}
 use Rattle.messages.specs.State.{FloatRows, partFloats, buildOf, buildsOf, storeOf}
-use Rattle.schedule.specs.SweepRows.{sends-fit}
-use Rattle.schedule.specs.SweepRotate.{rotated, rotated-rows}
-use Rattle.schedule.specs.SweepNode.{NodeSent, builtIn, flagAfter}
+use Rattle.sweeps.specs.SweepRows.{sends-fit}
+use Rattle.sweeps.specs.SweepRotate.{rotated, rotated-rows}
+use Rattle.sweeps.specs.SweepNode.{NodeSent, builtIn, flagAfter}
 use Rattle.zero_lookahead.specs.Part.{rowsEnd, flagsRow, PartWords, Stands, KeptFront}
 use Rattle.zero_lookahead.specs.PartKept.{flag-set, flag-set-long, flags-part, flags-front, flags-are}
 use Rattle.zero_lookahead.specs.SweepBuilds.{length-builds, builds-at, length-built, built-next}

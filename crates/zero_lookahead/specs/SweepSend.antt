@@ -19,14 +19,14 @@ use Rattle.messages.specs.LayoutOffsets.{offset-end}
 use Rattle.messages.specs.LayoutRows.{RowsRead}
 use Rattle.messages.specs.DirectionsRead.{kindsRow, labelsRow, firstsRow, startsRow, outsRow, offsetsRow, RecordFits, RowsFit}
 use Rattle.messages.specs.State.{PartRows, FloatRows, partFloats}
-use Rattle.schedule.specs.Sweep.{Pairing, variableSent, Factoring, factorSent}
-use Rattle.schedule.specs.SweepCopies.{Directed}
-use Rattle.schedule.specs.SweepRebuild.{Rebuilding, needsBuild, treeSent}
-use Rattle.schedule.specs.SweepRows.{IsVariable, read-rows, variable-fits, first-there}
-use Rattle.schedule.specs.SweepFactor.{factor-fits}
-use Rattle.schedule.specs.SweepTree.{directed}
-use Rattle.schedule.specs.SweepTreeBuild.{tree-rebuilding}
-use Rattle.schedule.specs.SweepNode.{NodeSent, variable-sent, factor-sent, tree-sent}
+use Rattle.sweeps.specs.Sweep.{Pairing, variableSent, Factoring, factorSent}
+use Rattle.sweeps.specs.SweepCopies.{Directed}
+use Rattle.sweeps.specs.SweepRebuild.{Rebuilding, needsBuild, treeSent}
+use Rattle.sweeps.specs.SweepRows.{IsVariable, read-rows, variable-fits, first-there}
+use Rattle.sweeps.specs.SweepFactor.{factor-fits}
+use Rattle.sweeps.specs.SweepTree.{directed}
+use Rattle.sweeps.specs.SweepTreeBuild.{tree-rebuilding}
+use Rattle.sweeps.specs.SweepNode.{NodeSent, variable-sent, factor-sent, tree-sent}
 use Rattle.zero_lookahead.specs.Part.{rowsEnd, PartWords}
 use Rattle.zero_lookahead.specs.Variable.{SomeVariable, kind-word}
 

@@ -18,7 +18,7 @@ use Rattle.messages.specs.LayoutLists.{getD-any}
 use Rattle.messages.specs.LayoutRows.{rows-read}
 use Rattle.messages.specs.DirectionsRead.{labelsRow}
 use Rattle.messages.specs.State.{HasEvidence}
-use Rattle.schedule.specs.SweepRows.{IsVariable}
+use Rattle.sweeps.specs.SweepRows.{IsVariable}
 use Rattle.zero_lookahead.specs.Part.{PartWords}
 
 pub record SomeVariable (words : List ℕ) (evidence : List Float) (n : ℕ) : Type 0 where

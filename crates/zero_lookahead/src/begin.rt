@@ -14,9 +14,9 @@ ghost use Rattle.zero_lookahead.specs.BeginKeys.{SomeStandingAny, leafKe
 use crate::open::clear_pending;
 use crate::settings::Settings;
 use crate::words::word;
+use opening::begin::initial_key;
 use priorities::fill;
 use priorities::leaves_for;
-use schedule::begin::initial_key;
 
 // The key of direction d, from its message in force and its message in the log. It is 0 behind the last direction.
 fn leaf_key(

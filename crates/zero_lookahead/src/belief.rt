@@ -6,7 +6,7 @@ ghost use Rattle.definition.specs.Settings as definition;
 ghost use Rattle.definition.specs.Vectors.{binary};
 ghost use Rattle.definition.specs.Directions.{MessageGraph, nodeAt};
 ghost use Rattle.definition.specs.Messages.{initialBelief};
-ghost use Rattle.schedule.specs.SweepRows.{IsVariable};
+ghost use Rattle.sweeps.specs.SweepRows.{IsVariable};
 ghost use Rattle.zero_lookahead.specs.Part.{PartWords};
 ghost use Rattle.zero_lookahead.specs.Variable.{SomeVariable};
 use crate::words::word;

@@ -15,7 +15,7 @@ ghost use Rattle.array_utils.specs.LogTable.{logTable};
 ghost use Rattle.list_laws.specs.Part.{region};
 ghost use Rattle.messages.specs.Pairs.{pairs};
 ghost use Rattle.messages.specs.DirectionsRead.{labelsRow};
-ghost use Rattle.schedule.specs.StepLog.{beginsAt, endsAt};
+ghost use Rattle.steps.specs.StepLog.{beginsAt, endsAt};
 ghost use Rattle.zero_lookahead.specs.Part.{Given, Stands};
 ghost use Rattle.zero_lookahead.specs.Named.{Named, Believed, SomeBeliefs};
 ghost use Rattle.zero_lookahead.specs.Beliefs.{Held, BeliefRows, SomeRows};

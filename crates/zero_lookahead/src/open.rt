@@ -16,9 +16,9 @@ use messages::directions::labels_row;
 use messages::directions::offsets_row;
 use messages::directions::outs_row;
 use messages::directions::starts_row;
-use schedule::open::clear_words;
-use schedule::open::open_part;
-use schedule::send_tree::clear_at;
+use opening::open::clear_words;
+use opening::open::open_part;
+use sweeps::send_tree::clear_at;
 
 // Nothing is pending, and so many floats behind the pending residuals are zero.
 pub(crate) fn clear_pending(w: &mut [f32], words: &[u32], out: usize, more: usize)

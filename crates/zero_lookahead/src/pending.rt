@@ -10,7 +10,7 @@ ghost use Rattle.float_laws.specs.Rounded.{clear};
 ghost use Rattle.list_laws.specs.Part.{region};
 ghost use Rattle.messages.specs.DirectionsRead.{firstsRow, startsRow, outsRow, RecordFits};
 ghost use Rattle.messages.specs.LayoutWords.{othersTo};
-ghost use Rattle.schedule.specs.StepPending.{OneKept, AllKept};
+ghost use Rattle.steps.specs.StepPending.{OneKept, AllKept};
 ghost use Rattle.zero_lookahead.specs.Part.{leavesIn, queueAt};
 ghost use Rattle.zero_lookahead.specs.StepAdded.{Adding, Added, AddingAlong, AddedAlong};
 ghost use Rattle.zero_lookahead.specs.StepReads.{SomePart};
@@ -20,9 +20,9 @@ use messages::directions::firsts_row;
 use messages::directions::offsets_row;
 use messages::directions::outs_row;
 use messages::directions::starts_row;
-use schedule::log::row_len;
-use schedule::pending::add_to_pending;
-use schedule::pending::clear_pending;
+use steps::log::row_len;
+use steps::pending::add_to_pending;
+use steps::pending::clear_pending;
 
 // Nothing is pending for direction d any more, and it waits no more. The queue's words stand from `queue` on.
 fn clear_at(pending: &mut [f32], words: &mut [u32], queue: usize, leaves: usize, d: usize)

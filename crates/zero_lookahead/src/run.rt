@@ -24,7 +24,7 @@ use crate::words::word;
 use priorities::Top;
 use priorities::highest_priority;
 use priorities::leaves_for;
-use schedule::log::Changed;
+use steps::log::Changed;
 
 // How a part ends, with the last residual.
 pub enum Ending {

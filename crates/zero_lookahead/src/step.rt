@@ -12,8 +12,8 @@ ghost use Rattle.definition.specs.Run.{State, scheduledStep};
 ghost use Rattle.definition.specs.Sweeps.{Store};
 ghost use Rattle.array_utils.specs.LogTable.{logTable};
 ghost use Rattle.messages.specs.State.{changedOf};
-ghost use Rattle.schedule.specs.StepChanged.{changedFrom};
-ghost use Rattle.schedule.specs.StepLog.{Within};
+ghost use Rattle.steps.specs.StepChanged.{changedFrom};
+ghost use Rattle.steps.specs.StepLog.{Within};
 ghost use Rattle.zero_lookahead.specs.Part.{Given, Stands, Runs, SomeRunning, KeptFront};
 ghost use Rattle.zero_lookahead.specs.StepStands.{SomeStands, StandsWith, loggedStore};
 use crate::pending::add_along;
@@ -22,9 +22,9 @@ use crate::update::update_message;
 use messages::directions::firsts_row;
 use messages::directions::offsets_row;
 use messages::directions::starts_row;
-use schedule::log::Changed;
-use schedule::log::residual_at;
-use schedule::log::update_log;
+use steps::log::Changed;
+use steps::log::residual_at;
+use steps::log::update_log;
 
 // By how much the message in force along direction d differs from the logged one.
 fn residual_along(table: &[f32; 1025], w: &[f32], words: &[u32], out: usize, d: usize) -> f32

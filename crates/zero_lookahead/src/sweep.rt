@@ -9,7 +9,7 @@ ghost use Rattle.definition.specs.Settings as definition;
 ghost use Rattle.definition.specs.Directions.{MessageGraph};
 ghost use Rattle.definition.specs.Sweeps.{Store, sweep};
 ghost use Rattle.array_utils.specs.LogTable.{logTable};
-ghost use Rattle.schedule.specs.SweepNode.{NodeSent};
+ghost use Rattle.sweeps.specs.SweepNode.{NodeSent};
 ghost use Rattle.zero_lookahead.specs.Part.{rowsEnd, Given, Stands, SomeStanding, KeptFront};
 ghost use Rattle.zero_lookahead.specs.SweepLoop.{Swept};
 ghost use Rattle.zero_lookahead.specs.SweepSend.{NodeRows, SomeNode, SomeNodeOf};
@@ -19,10 +19,10 @@ use crate::words::word;
 use messages::directions::firsts_row;
 use messages::directions::offsets_row;
 use messages::directions::outs_row;
-use schedule::send::send_factor;
-use schedule::send::send_variable;
-use schedule::send_tree::send_tree;
-use schedule::sweep::rotate;
+use sweeps::send::send_factor;
+use sweeps::send::send_variable;
+use sweeps::send_tree::send_tree;
+use sweeps::sweep::rotate;
 
 // A grade or an input.
 fn send_from_variable(

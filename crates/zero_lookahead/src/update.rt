@@ -11,9 +11,9 @@ ghost use Rattle.definition.specs.Messages.{initialBelief};
 ghost use Rattle.definition.specs.Sweeps.{Store};
 ghost use Rattle.definition.specs.Run.{updateSingle, updateTree};
 ghost use Rattle.array_utils.specs.LogTable.{logTable};
-ghost use Rattle.schedule.specs.StepChanged.{changedFrom};
-ghost use Rattle.schedule.specs.StepLog.{Within};
-ghost use Rattle.schedule.specs.SweepRows.{IsVariable};
+ghost use Rattle.steps.specs.StepChanged.{changedFrom};
+ghost use Rattle.steps.specs.StepLog.{Within};
+ghost use Rattle.sweeps.specs.SweepRows.{IsVariable};
 ghost use Rattle.zero_lookahead.specs.Part.{Given, PartWords, SomeStanding, KeptFront};
 ghost use Rattle.zero_lookahead.specs.StepMessage.{Updated};
 ghost use Rattle.zero_lookahead.specs.StepReads.{SomePart};
@@ -32,9 +32,9 @@ use messages::directions::kinds_row;
 use messages::directions::offsets_row;
 use messages::directions::outs_row;
 use messages::directions::starts_row;
-use schedule::log::Changed;
-use schedule::log::copy_neighbours;
-use schedule::single::update_single;
+use steps::log::Changed;
+use steps::log::copy_neighbours;
+use steps::single::update_single;
 
 // The belief that a variable starts with; a factor has none.
 fn belief_of(words: &[u32], evidence: &[f32], prior: f32, n: usize) -> VariableMessage

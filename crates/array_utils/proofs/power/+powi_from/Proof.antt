@@ -1,7 +1,7 @@
 -- `array_utils::power::powi_from` meets its contract; the exponent falls at each call.
 use mathlib.Core.Path.{_≡_, _∙_}
 use native.Mathlib.Omega.{arith}
-use Rattle.array_utils.specs.PowerLaws.{power-zero, power-odd, power-even}
+use Rattle.array_utils.specs.PowerLaws.{power-zero, power-one, power-odd, power-even}
 use Prim.Native.Nat.{ℕ, _<_, _/_}
 use borrow.Fn.Kinds.{In}
 use borrow.Fn.PlainCycle.{Measures, is, falls, and}
@@ -33,29 +33,35 @@ powi-from-returns :
     powi-from.Post
 powi-from-returns t c = power-zero (c .before .args .acc) (c .before .args .base) (c .before .args .n) (c .if1 .taken)
 
+powi-from-returns-one : (t : ℕ) → powi-from-lts.Need-returns-2 (
+  powi-from-below t,
+  powi-from.Post,
+) (powi-from-at t) powi-from.Post
+powi-from-returns-one t c = let a = c .before .before .args in power-one (a .acc) (a .base) (a .n) (c .if2 .taken)
+
 powi-from-powi-from-requires : (t : ℕ) → powi-from-lts.Need-powi-from-requires (
   powi-from-below t,
   powi-from.Post,
 ) (powi-from-at t) powi-from.Post
-powi-from-powi-from-requires t c κs = (half-lt (c .before .before .args .n) t (c .before .if1 .left) (c .before .before .pre .0), tt)
+powi-from-powi-from-requires t c κs = (half-lt (c .before .before .before .args .n) t (c .before .before .if1 .left) (c .before .before .before .pre .0), tt)
 
 powi-from-powi-from-requires-2 : (t : ℕ) → powi-from-lts.Need-powi-from-requires-2 (
   powi-from-below t,
   powi-from.Post,
 ) (powi-from-at t) powi-from.Post
-powi-from-powi-from-requires-2 t c κs = (half-lt (c .before .before .args .n) t (c .before .if1 .left) (c .before .before .pre .0), tt)
+powi-from-powi-from-requires-2 t c κs = (half-lt (c .before .before .before .args .n) t (c .before .before .if1 .left) (c .before .before .before .pre .0), tt)
 
-powi-from-returns-2 : (t : ℕ) → powi-from-lts.Need-returns-2 (
+powi-from-returns-2 : (t : ℕ) → powi-from-lts.Need-returns-3 (
   powi-from-below t,
   powi-from.Post,
 ) (powi-from-at t) powi-from.Post
-powi-from-returns-2 t c = let a = c .before .before .before .args in c .powi-from .ensures ∙ power-odd (a .acc) (a .base) (a .n) (c .before .before .if1 .left) (c .before .if2 .taken)
+powi-from-returns-2 t c = let a = c .before .before .before .before .args in c .powi-from .ensures ∙ power-odd (a .acc) (a .base) (a .n) (c .before .before .before .if1 .left) (c .before .if3 .taken)
 
-powi-from-returns-3 : (t : ℕ) → powi-from-lts.Need-returns-3 (
+powi-from-returns-3 : (t : ℕ) → powi-from-lts.Need-returns-4 (
   powi-from-below t,
   powi-from.Post,
 ) (powi-from-at t) powi-from.Post
-powi-from-returns-3 t c = let a = c .before .before .before .args in c .powi-from2 .ensures ∙ power-even (a .acc) (a .base) (a .n) (c .before .before .if1 .left) (c .before .if2 .left)
+powi-from-returns-3 t c = let a = c .before .before .before .before .args in c .powi-from2 .ensures ∙ power-even (a .acc) (a .base) (a .n) (c .before .before .before .if1 .left) (c .before .if3 .left)
 
 pub +powi-from-spec : {M : Type 1} → statement M
 +powi-from-spec = close μ-powi-from λ t. powi-from-lts.spec (
@@ -65,6 +71,7 @@ pub +powi-from-spec : {M : Type 1} → statement M
     (powi-from-at t)
     powi-from.Post
     (powi-from-returns t)
+    (powi-from-returns-one t)
     (powi-from-powi-from-requires t)
     (powi-from-powi-from-requires-2 t)
     (powi-from-returns-2 t)

@@ -7,7 +7,7 @@ use lib.Ieee.{Float}
 use lib.ListN.{length}
 use Rattle.definition.specs.Settings.{Settings}
 use Rattle.list_laws.specs.Part.{region, length-region}
-use Rattle.schedule.specs.Begin.{initialKey}
+use Rattle.opening.specs.Begin.{initialKey}
 use Rattle.zero_lookahead.specs.BeginKeys.{key-behind, key-room, key-is}
 use Rattle.zero_lookahead.proofs.begin.leaf_key.Statement.{statement}
 use Rattle.zero_lookahead.proofs.begin.leaf_key.Tie as tie

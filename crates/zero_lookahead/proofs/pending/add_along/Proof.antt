@@ -1,7 +1,7 @@
 -- `zero_lookahead::pending::add_along` meets its contract.
 use native.Mathlib.Omega.{arith}
 use mathlib.Core.Path.{ap, _∙_}
-use Rattle.schedule.specs.StepLog.{total}
+use Rattle.steps.specs.StepLog.{total}
 use Rattle.zero_lookahead.specs.StepAdded.{along-room, along-adding, along-added}
 use Rattle.zero_lookahead.specs.StepReads.{offsets-there}
 use borrow.Author.Needs.{needs}

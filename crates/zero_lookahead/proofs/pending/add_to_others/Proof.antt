@@ -11,7 +11,7 @@ use Rattle.graph_laws.specs.MessageCounts.{length-addTo}
 use Rattle.list_laws.specs.Part.{region}
 use Rattle.messages.specs.LayoutWords.{othersTo}
 use Rattle.messages.specs.LayoutPending.{pending-none, pending-pass, pending-step}
-use Rattle.schedule.specs.StepPending.{OneKept, AllKept, all-none, all-pass, all-step}
+use Rattle.steps.specs.StepPending.{OneKept, AllKept, all-none, all-pass, all-step}
 use Rattle.zero_lookahead.specs.StepQueue.{WaitingAt, OnlyAt, only-none, only-next, other-there, other-read}
 use Rattle.zero_lookahead.proofs.pending.add_to_others.Statement.{statement}
 use Rattle.zero_lookahead.proofs.pending.add_to_others.Tie as tie

@@ -11,8 +11,8 @@ use Rattle.definition.specs.Directions.{MessageGraph}
 use Rattle.definition.specs.Priorities.{Highest}
 use Rattle.definition.specs.Run.{State}
 use Rattle.priorities.specs.Answer.{highestOf}
-use Rattle.schedule.specs.StepChanged.{changedFrom}
-use Rattle.schedule.specs.StepLog.{Within}
+use Rattle.steps.specs.StepChanged.{changedFrom}
+use Rattle.steps.specs.StepLog.{Within}
 use Rattle.zero_lookahead.specs.Part.{Given, Runs, KeptFront}
 use Rattle.zero_lookahead.specs.RunQueue.{runs-queue}
 use Rattle.zero_lookahead.specs.RunSteps.{AtStart, Stepped, stepped-none, ends-limit, ends-settled, ends-empty, direction-there, stepped-next}

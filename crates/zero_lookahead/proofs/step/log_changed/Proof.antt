@@ -1,5 +1,5 @@
 -- `zero_lookahead::step::log_changed` meets its contract.
-use Rattle.schedule.specs.StepChanged.{changedFrom}
+use Rattle.steps.specs.StepChanged.{changedFrom}
 use Rattle.zero_lookahead.specs.StepStands.{stands-part, stands-within, stands-logged}
 use borrow.Author.Needs.{needs}
 use Rattle.zero_lookahead.proofs.step.log_changed.Statement.{statement}

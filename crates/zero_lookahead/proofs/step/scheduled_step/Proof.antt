@@ -2,8 +2,8 @@
 use Prim.Native.Nat.{ℕ, _+_}
 use mathlib.Core.Path.{_∙_, subst}
 use Rattle.messages.specs.State.{changedOf}
-use Rattle.schedule.specs.StepChanged.{changedFrom}
-use Rattle.schedule.specs.StepLog.{Within}
+use Rattle.steps.specs.StepChanged.{changedFrom}
+use Rattle.steps.specs.StepLog.{Within}
 use Rattle.zero_lookahead.specs.Part.{queueRow}
 use Rattle.zero_lookahead.specs.Step.{running-with, running-adding, added-front, added-nodes, running-all}
 use Rattle.zero_lookahead.specs.StepStands.{loggedStore, residual-sign}

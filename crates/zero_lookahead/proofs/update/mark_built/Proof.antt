@@ -3,7 +3,7 @@ use Prim.Native.Nat.{ℕ, _+_, _*_}
 use mathlib.Core.Path.{sym, ap, _∙_}
 use mathlib.Core.Bool.{Bool}
 use lib.ListN.{getD, set}
-use Rattle.schedule.specs.SweepNode.{flagAfter}
+use Rattle.sweeps.specs.SweepNode.{flagAfter}
 use Rattle.zero_lookahead.specs.Part.{rowsEnd}
 use Rattle.zero_lookahead.specs.StepTree.{flagged, flag-kept}
 use borrow.Author.Needs.{needs}

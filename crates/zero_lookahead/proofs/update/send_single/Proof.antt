@@ -2,7 +2,7 @@
 use mathlib.Core.Path.{ap}
 use Rattle.definition.specs.Settings as definition
 use Rattle.definition.specs.Vectors.{binary}
-use Rattle.schedule.specs.StepUpdate.{single-reads}
+use Rattle.steps.specs.StepUpdate.{single-reads}
 use Rattle.zero_lookahead.specs.StepReads.{start-node}
 use Rattle.zero_lookahead.specs.StepSingle.{single-sender, single-at, single-stands}
 use borrow.Author.Needs.{needs}

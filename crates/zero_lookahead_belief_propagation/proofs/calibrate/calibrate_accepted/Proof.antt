@@ -3,7 +3,7 @@ use Prim.Native.Nat.{ℕ}
 use mathlib.Core.Path.{refl, ap, _∙_}
 use lib.ListN.{replicate}
 use Rattle.definition.specs.Floats.{zeroᶠ}
-use Rattle.schedule.specs.OpenSends.{replicate-all}
+use Rattle.opening.specs.OpenSends.{replicate-all}
 use Rattle.zero_lookahead_belief_propagation.specs.Calibrated.{call-cut}
 use borrow.Author.Needs.{needs}
 use Rattle.zero_lookahead_belief_propagation.proofs.calibrate.calibrate_accepted.Statement.{statement}

@@ -6,7 +6,7 @@ use lib.Ieee.{ofBits}
 use lib.ListN.{length, length-set}
 use Rattle.definition.specs.Floats.{zeroᶠ}
 use Rattle.list_laws.specs.Write.{write, write-none, write-next}
-use Rattle.schedule.specs.OpenSends.{replicate-all}
+use Rattle.opening.specs.OpenSends.{replicate-all}
 use Rattle.zero_lookahead_belief_propagation.proofs.calibrate.clear_floats.Statement.{statement}
 use Rattle.zero_lookahead_belief_propagation.proofs.calibrate.clear_floats.Tie as tie
 
