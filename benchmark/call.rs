@@ -23,11 +23,11 @@ fn median(mut times: Vec<f64>) -> f64 {
 fn call_of(graph: &Graph, tolerance: f32) -> Call {
     let mut random = Random::new(5);
     let mut evidence = || {
-        let e = random.within(6144, 10240) as f32 / 16384.0;
+        let e = random.within(1, 16383) as f32 / 16384.0;
         [1.0 - e, e]
     };
     Call {
-        settings: Settings { alpha: 0.5, beta: 0.125, prior: 0.25, regularised: false, tolerance, loop_limit: 10_000 },
+        settings: Settings { alpha: 0.75, beta: 0.0625, prior: 0.25, regularised: false, tolerance, loop_limit: 10_000 },
         grades: graph.grades as u32,
         evidence: (0..graph.markers).flat_map(|_| evidence()).collect(),
         pairs: graph.pairs.iter().flat_map(|&(g, m)| [g as u32, m as u32]).collect(),
