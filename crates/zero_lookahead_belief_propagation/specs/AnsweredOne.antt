@@ -19,8 +19,8 @@ use Rattle.graph_laws.specs.AnswerSizes.{answer-sizes}
 use Rattle.graph_laws.specs.Consistency.{nodes-of}
 use Rattle.factor_graph.specs.Words.{label}
 use Rattle.messages.specs.DirectionsRecord.{node-count, record-room}
-use Rattle.zero_lookahead.specs.declared.run.Ending.{Ending}
-use Rattle.zero_lookahead.specs.Ending.{endingFrom}
+use Rattle.part.specs.declared.run.Ending.{Ending}
+use Rattle.part.specs.Ending.{endingFrom}
 use Rattle.zero_lookahead_belief_propagation.specs.Answered.{Answers, answersWith, Written, written-none, partAt, part-beliefs}
 use Rattle.zero_lookahead_belief_propagation.specs.AnsweredPart.{Placed, Large, PartRuns, Asked}
 

@@ -25,12 +25,12 @@ use Rattle.messages.specs.DirectionsRows.{directionRows}
 use Rattle.messages.specs.Directions.{Ready}
 use Rattle.messages.specs.DirectionsRead.{Laid, laid-put, labelsRow}
 use Rattle.zero_lookahead.specs.declared.settings.Settings.{Settings}
-use Rattle.zero_lookahead.specs.declared.run.Ending.{Ending}
+use Rattle.part.specs.declared.run.Ending.{Ending}
 use Rattle.zero_lookahead.specs.Part.{Given, Room, Stands, KeptFront}
-use Rattle.zero_lookahead.specs.Ending.{endingFrom, Ran}
-use Rattle.zero_lookahead.specs.Named.{Named, Believed, SomeBeliefs}
-use Rattle.zero_lookahead.specs.AcceptedWords.{labels-recorded}
-use Rattle.zero_lookahead.specs.Accepted.{part-words, part-floats, part-narrow, part-few, part-room, part-named}
+use Rattle.part.specs.Ending.{endingFrom, Ran}
+use Rattle.part.specs.Named.{Named, Believed, SomeBeliefs}
+use Rattle.part.specs.AcceptedWords.{labels-recorded}
+use Rattle.part.specs.Accepted.{part-words, part-floats, part-narrow, part-few, part-room, part-named}
 use Rattle.zero_lookahead_belief_propagation.specs.Answered.{Answers, Fits, partAt}
 
 abbrev pub settingsFrom : Settings → ℕ → definition.Settings

@@ -9,13 +9,13 @@ ghost use Rattle.definition.specs.Directions.{messageGraphOf};
 ghost use Rattle.definition.specs.Call.{overwrite};
 ghost use Rattle.array_utils.specs.LogTable.{logTable};
 ghost use Rattle.zero_lookahead.specs.Part.{KeptFront};
-ghost use Rattle.zero_lookahead.specs.Ending.{endingFrom};
+ghost use Rattle.part.specs.Ending.{endingFrom};
 ghost use Rattle.zero_lookahead_belief_propagation.specs.Answered.{answersWith, Written, partAt};
 ghost use Rattle.zero_lookahead_belief_propagation.specs.AnsweredPart.{settingsFrom, Large, SomeLarge, PartRuns, Asked, SomeAsked};
 use messages::directions::fill_directions;
-use zero_lookahead::beliefs::beliefs;
-use zero_lookahead::run::Ending;
-use zero_lookahead::run::run;
+use part::beliefs::beliefs;
+use part::run::Ending;
+use part::run::run;
 use zero_lookahead::settings::Settings;
 
 // An ending as it is answered.

@@ -2,7 +2,7 @@
 use mathlib.Core.Path.{refl, ap}
 use lib.Ieee.{ofBits}
 use Rattle.definition.specs.Answer.{endingNumber, endingResidual}
-use Rattle.zero_lookahead.specs.Ending.{endingFrom}
+use Rattle.part.specs.Ending.{endingFrom}
 use borrow.Author.Needs.{needs}
 use Rattle.zero_lookahead_belief_propagation.proofs.answer.ending_words.Statement.{statement}
 use Rattle.zero_lookahead_belief_propagation.proofs.answer.ending_words.Tie as tie

@@ -1,0 +1,55 @@
+-- Beliefs written one behind the other over the fronts of two slices.
+use Prim.Native.Nat.{ℕ, suc, _+_, _*_, _<_}
+use native.Mathlib.Omega.{arith}
+use mathlib.Core.Path.{_≡_, refl, sym, ap, _∙_}
+use mathlib.Core.List.{List, [], _∷_, _++_, map-append, append-assoc}
+use lib.Ieee.{Float, nan}
+use lib.ListN.{length, drop, getD, set, length-append}
+use lib.Seq.{drop-cons, set-at}
+use Rattle.definition.specs.Vectors.{binary}
+use Rattle.definition.specs.Answer.{Belief, beliefNumbers, beliefFloats}
+use Rattle.definition.specs.Call.{overwrite}
+use Rattle.graph_laws.specs.Lists.{append-none}
+use Rattle.graph_laws.specs.AnswerSizes.{numbers-length}
+use Rattle.part.specs.Named.{Believed}
+
+-- one more behind what was written
+over-one : {A : Type 0} (d : A) (l m : List A) (k : ℕ) (v : A) → length l ≡ k → k < length m → set (overwrite l m) k v ≡ overwrite (l ++ (v ∷ [])) m
+over-one {A} d l m k v e h =
+    ap (λ (r : List A). set (l ++ r) k v) (drop-cons m (length l) d (omega arith))
+    ∙ set-at l (getD m (length l) d) (drop (suc (length l)) m) v k e
+    ∙ sym (append-assoc l (v ∷ []) (drop (suc (length l)) m))
+    ∙ ap (λ (n : ℕ). (l ++ (v ∷ [])) ++ drop n m) (let z : suc (length l) ≡ length (l ++ (v ∷ [])) = omega (arith, length-append l (v ∷ [])) in z)
+
+floats-append : (bs : List Belief) (b : Belief) → beliefFloats (bs ++ (b ∷ [])) ≡ beliefFloats bs ++ b .value
+unfolding beliefFloats
+floats-append [] b = append-none (b .value)
+floats-append (c ∷ bs) b = ap (λ (l : List Float). c .value ++ l) (floats-append bs b) ∙ sym (append-assoc (c .value) (beliefFloats bs) (b .value))
+
+numbers-append : (bs : List Belief) (b : Belief) → beliefNumbers (bs ++ (b ∷ [])) ≡ beliefNumbers bs ++ (b .grade ∷ [])
+unfolding beliefNumbers
+numbers-append bs b = map-append (λ (c : Belief). c .grade) bs (b ∷ [])
+
+pub believed-none : (numbers : List ℕ) (floats : List Float) → Believed [] numbers floats 0 numbers floats
+unfolding beliefNumbers beliefFloats
+believed-none numbers floats = record { count-is = refl; numbers-are = refl; floats-are = refl }
+
+module _ (bs : List Belief) (b : Belief) (numbers : List ℕ) (floats : List Float) (k : ℕ) (numbers′ : List ℕ) (floats′ : List Float) (H : Believed bs numbers floats k numbers′ floats′)
+    (two : length (beliefFloats bs) ≡ 2 * length bs) where
+  pub believed-next : (x y : Float) → k < length numbers → 2 * k + 1 < length floats → binary x y ≡ b .value
+      → Believed (bs ++ (b ∷ [])) numbers floats (k + 1) (set numbers′ k (b .grade)) (set (set floats′ (2 * k) x) (2 * k + 1) y)
+  believed-next x y h g e =
+      let n : length (beliefNumbers bs) ≡ k = numbers-length bs ∙ sym (H .count-is) in
+      let f : length (beliefFloats bs) ≡ 2 * k = omega (arith, two, H .count-is) in
+      record {
+        count-is = omega (arith, H .count-is, length-append bs (b ∷ []));
+        numbers-are =
+            ap (λ (l : List ℕ). set l k (b .grade)) (H .numbers-are)
+            ∙ over-one 0 (beliefNumbers bs) numbers k (b .grade) n h
+            ∙ ap (λ (l : List ℕ). overwrite l numbers) (sym (numbers-append bs b));
+        floats-are =
+            ap (λ (l : List Float). set (set l (2 * k) x) (2 * k + 1) y) (H .floats-are)
+            ∙ ap (λ (l : List Float). set l (2 * k + 1) y) (over-one nan (beliefFloats bs) floats (2 * k) x f (omega arith))
+            ∙ over-one nan (beliefFloats bs ++ (x ∷ [])) floats (2 * k + 1) y (omega (arith, f, length-append (beliefFloats bs) (x ∷ []))) g
+            ∙ ap (λ (l : List Float). overwrite l floats) (append-assoc (beliefFloats bs) (x ∷ []) (y ∷ []) ∙ ap (λ (l : List Float). beliefFloats bs ++ l) e ∙ sym (floats-append bs b));
+      }
