@@ -62,8 +62,9 @@ impl Buffer {
         self.words.len() - 2 * CANARIES
     }
 
+    /// An empty buffer is lent as a null pointer.
     fn pointer(&mut self) -> *mut u32 {
-        self.words[CANARIES..].as_mut_ptr()
+        if self.len() == 0 { std::ptr::null_mut() } else { self.words[CANARIES..].as_mut_ptr() }
     }
 
     pub fn entries(&self) -> &[u32] {
@@ -117,6 +118,10 @@ impl Buffers {
     }
 }
 
+fn pointer_to<T>(entries: &[T]) -> *const T {
+    if entries.is_empty() { std::ptr::null() } else { entries.as_ptr() }
+}
+
 pub fn calibrate(call: &Call, lent: &mut Buffers) -> Reply {
     let s = &call.settings;
     unsafe {
@@ -128,9 +133,9 @@ pub fn calibrate(call: &Call, lent: &mut Buffers) -> Reply {
             s.tolerance,
             s.loop_limit,
             call.grades,
-            call.evidence.as_ptr(),
+            pointer_to(&call.evidence),
             call.evidence.len(),
-            call.pairs.as_ptr(),
+            pointer_to(&call.pairs),
             call.pairs.len(),
             lent.work_floats.pointer().cast(),
             lent.work_floats.len(),
