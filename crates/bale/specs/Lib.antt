@@ -1,0 +1,2 @@
+-- What the program's reads leave behind (Reads).
+pub mod Reads

@@ -1,0 +1,25 @@
+-- Two slices that agree in length and in each element are the same, and a listing at the front of a buffer.
+use Prim.Native.Nat.{ℕ, _+_, _≤_, _<_}
+use native.Mathlib.Omega.{arith}
+use native.Mathlib.Decide.{decLt}
+use mathlib.Core.Path.{_≡_, ap, _∙_}
+use mathlib.Core.Logic.{by-cases}
+use mathlib.Core.List.{List}
+use lib.ListN.{length, getD, take, drop, length-append}
+use lib.Seq.{ext-getD, take-append-seam}
+use Rattle.definition.specs.Call.{overwrite}
+
+pub same-more : (a b : List ℕ) (i : ℕ) → ((j : ℕ) → j < i → getD a j 0 ≡ getD b j 0) → getD a i 0 ≡ getD b i 0 → (j : ℕ) → j < i + 1 → getD a j 0 ≡ getD b j 0
+same-more a b i h e j q = by-cases (decLt j i) (λ (z : j < i). h j z) (λ z. let y : j ≡ i = omega arith in rw y e)
+
+pub same-all : (a b : List ℕ) (i : ℕ) → length a ≡ length b → ((j : ℕ) → j < i → getD a j 0 ≡ getD b j 0) → length a ≤ i → a ≡ b
+same-all a b i e h k = ext-getD 0 a b e (λ j q. h j (omega arith))
+
+-- ---- a listing that stands at the front of a buffer, as the program writes it
+
+module _ (l m k : List ℕ) (n : ℕ) (e : (k ≡ overwrite l m) × (n ≡ length l)) where
+  pub front-fits : n ≤ length k
+  front-fits = omega (arith, e .1, ap length (e .0), length-append l (drop (length l) m))
+
+  pub front-is : take n k ≡ l
+  front-is = ap (take n) (e .0) ∙ ap (λ (i : ℕ). take i (overwrite l m)) (e .1) ∙ take-append-seam l (drop (length l) m)
