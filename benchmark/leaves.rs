@@ -1,5 +1,6 @@
 // Times ln_from_table, exp and log_normalize beside the Rust's own with document 01's stand-ins, in one process, on the same inputs,
 // and checks that every result agrees bit for bit. Run by benchmark/leaves.
+use oracle::random::Random;
 use oracle::{pieces, standins};
 use std::hint::black_box;
 use std::time::Instant;
@@ -30,19 +31,9 @@ fn rust_log_normalize_all(xs: &mut [f32]) {
     }
 }
 
-struct Random(u64);
-
-impl Random {
-    fn next(&mut self) -> u32 {
-        self.0 ^= self.0 << 13;
-        self.0 ^= self.0 >> 7;
-        self.0 ^= self.0 << 17;
-        (self.0 >> 32) as u32
-    }
-    // from 0 up to 1
-    fn unit(&mut self) -> f32 {
-        (self.next() >> 8) as f32 / 16777216.0
-    }
+// from 0 up to 1
+fn unit(random: &mut Random) -> f32 {
+    (random.next() >> 40) as f32 / 16777216.0
 }
 
 fn nanoseconds(inputs: &[f32], f: impl Fn(&mut [f32])) -> (f64, Vec<f32>) {
@@ -89,14 +80,14 @@ fn compare(
 fn main() {
     const CALLS: usize = 1_000_000;
     const ROUNDS: usize = 11;
-    let mut random = Random(0x9e37_79b9_7f4a_7c15);
+    let mut random = Random::new(0x9e37_79b9_7f4a_7c15);
     // Any pattern from 0 up to the infinity's, and what counts as the least normal float.
     let mut positive: Vec<f32> = (0..CALLS)
-        .map(|_| f32::from_bits(random.next() % 0x7f80_0001))
+        .map(|_| f32::from_bits(random.next() as u32 % 0x7f80_0001))
         .collect();
     positive[..5].copy_from_slice(&[0.0, -0.0, -1.0, f32::NAN, f32::INFINITY]);
-    let below: Vec<f32> = (0..CALLS).map(|_| -90.0 * random.unit()).collect();
-    let logarithms: Vec<f32> = (0..CALLS).map(|_| 200.0 * random.unit() - 100.0).collect();
+    let below: Vec<f32> = (0..CALLS).map(|_| -90.0 * unit(&mut random)).collect();
+    let logarithms: Vec<f32> = (0..CALLS).map(|_| 200.0 * unit(&mut random) - 100.0).collect();
     let leaf =
         |which: u32| move |xs: &mut [f32]| unsafe { leaf_all(which, xs.as_mut_ptr(), xs.len()) };
     let alike = compare("ln_from_table", &positive, ROUNDS, leaf(0), rust_ln_all)

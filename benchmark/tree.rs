@@ -1,5 +1,6 @@
 // Compares the convolution tree with the Rust's own, message for message and bit for bit, on random trees of 2 to 64 leaves, and times both
 // in one process, on the same inputs. Run by benchmark/tree.
+use oracle::random::Random;
 use oracle::tree;
 use std::hint::black_box;
 use std::time::Instant;
@@ -17,28 +18,15 @@ const ROOM: usize = 1279;
 // What the scratch holds beforehand, which must not matter, and what lies behind it, which must stay.
 const BEFORE: f32 = 7.0;
 
-struct Random(u64);
+// from c to 1, log-uniform or uniform
+fn entry(random: &mut Random, logarithmic: bool) -> f32 {
+    let unit = (random.next() >> 40) as f32 / 16777216.0;
+    let entry = if logarithmic { LEAST.powf(unit) } else { unit };
+    entry.clamp(LEAST, 1.0)
+}
 
-impl Random {
-    fn next(&mut self) -> u32 {
-        self.0 ^= self.0 << 13;
-        self.0 ^= self.0 >> 7;
-        self.0 ^= self.0 << 17;
-        (self.0 >> 32) as u32
-    }
-    // from 0 up to 1
-    fn unit(&mut self) -> f32 {
-        (self.next() >> 8) as f32 / 16777216.0
-    }
-    // from c to 1, log-uniform or uniform
-    fn entry(&mut self, logarithmic: bool) -> f32 {
-        let unit = self.unit();
-        let entry = if logarithmic { LEAST.powf(unit) } else { unit };
-        entry.clamp(LEAST, 1.0)
-    }
-    fn messages(&mut self, n: usize, logarithmic: bool) -> Vec<f32> {
-        (0..3 * n + 1).map(|_| self.entry(logarithmic)).collect()
-    }
+fn messages(random: &mut Random, n: usize, logarithmic: bool) -> Vec<f32> {
+    (0..3 * n + 1).map(|_| entry(random, logarithmic)).collect()
 }
 
 fn proved(w: &mut [f32], n: usize) {
@@ -90,7 +78,7 @@ fn nanoseconds(calls: usize, mut f: impl FnMut()) -> f64 {
 fn time(random: &mut Random, n: usize) {
     const CALLS: usize = 50;
     const ROUNDS: usize = 1_001;
-    let messages = random.messages(n, false);
+    let messages = messages(random, n, false);
     let mut w = messages.clone();
     w.resize(messages.len() + ROOM, BEFORE);
     let (leaves, factor) = rust_inputs(&messages, n);
@@ -114,11 +102,11 @@ fn time(random: &mut Random, n: usize) {
 
 fn main() {
     const TREES: usize = 8_000;
-    let mut random = Random(0x9e37_79b9_7f4a_7c15);
+    let mut random = Random::new(0x9e37_79b9_7f4a_7c15);
     let differ = (0..TREES)
         .filter(|tree| {
-            let n = 2 + (random.next() % 63) as usize;
-            let messages = random.messages(n, tree % 2 == 0);
+            let n = random.within(2, 64);
+            let messages = messages(&mut random, n, tree % 2 == 0);
             !agree(&messages, n)
         })
         .count();

@@ -39,6 +39,7 @@ pub fn take_piece(input: Input, piece: &[u8], markers: &mut [u32], pairs: &mut [
 
 // Whether no further bytes can change the listing: a word is bad.
 pub fn is_decided(decoder: Decoder) -> bool
+    ensures { λ r. ⌜ r ≡ decoder .reading .bad ⌝ }
     ensures { λ r. ⌜ (r ≡ true → (bs ms ps rest : List ℕ) → Taken bs decoder ms ps → length (bs ++ rest) < 2 ^ 64 → listing (bs ++ rest) ≡ listing bs) ⌝ }
 {
     let reading = decoder.reading;

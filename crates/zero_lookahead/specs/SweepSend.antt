@@ -2,7 +2,7 @@
 use Prim.Native.Nat.{ℕ, _+_, _-_, _*_, _≤_, _<_}
 use native.Mathlib.Decide.{ℕ-discrete}
 use native.Mathlib.Omega.{arith}
-use mathlib.Core.Path.{_≡_, refl, sym, ap, _∙_, subst}
+use mathlib.Core.Path.{_≡_, sym, ap, _∙_, subst}
 use mathlib.Core.Bool.{Bool, false}
 use mathlib.Core.Logic.{inl, inr, by-cases}
 use mathlib.Core.List.{List, _++_}
@@ -12,7 +12,6 @@ use Rattle.definition.specs.Settings.{Settings}
 use Rattle.definition.specs.Vectors.{Message}
 use Rattle.definition.specs.Directions.{MessageGraph, nodeAt}
 use Rattle.definition.specs.Messages.{initialBelief}
-use Rattle.list_laws.specs.Part.{getD-region, length-region}
 use Rattle.messages.specs.Layout.{width, kindCode}
 use Rattle.messages.specs.LayoutKinds.{code-lt}
 use Rattle.messages.specs.LayoutOffsets.{offset-end}
@@ -27,6 +26,7 @@ use Rattle.sweeps.specs.SweepFactor.{factor-fits}
 use Rattle.sweeps.specs.SweepTree.{directed}
 use Rattle.sweeps.specs.SweepTreeBuild.{tree-rebuilding}
 use Rattle.sweeps.specs.SweepNode.{NodeSent, variable-sent, factor-sent, tree-sent}
+use Rattle.zero_lookahead.specs.PartOffsets.{width-is as part-width}
 use Rattle.zero_lookahead.specs.Part.{rowsEnd, PartWords}
 use Rattle.zero_lookahead.specs.Variable.{SomeVariable, kind-word}
 
@@ -102,13 +102,7 @@ module _ {s : Settings} {t : MessageGraph} {out : ℕ} {evidence : List Float} {
   width-there e q = omega (arith, P .room)
 
   pub width-word : (e l : ℕ) → e ≡ getD words 1 0 → l ≡ getD words (out + 6 * e) 0 → l ≡ width (t .directions)
-  width-word e l q z =
-      let d = getD words 1 0 in
-      let offsets = offsetsRow words 0 out in
-      let long : length offsets ≡ 2 * d + 1 = length-region words (out + 4 * d) (2 * d + 1) (omega (arith, P .room)) in
-      width-is (firstsRow words 0) (outsRow words 0 out) offsets refl refl refl l
-      (z ∙ ap (λ (i : ℕ). getD words i 0) (let y : out + 6 * e ≡ out + 4 * d + (length offsets - 1) = omega arith in y)
-      ∙ sym (getD-region words (out + 4 * d) (2 * d + 1) (length offsets - 1) 0 (omega arith)))
+  width-word e l q z = z ∙ ap (λ (i : ℕ). getD words (out + 6 * i) 0) q ∙ part-width P
 
 module _ {s : Settings} {t : MessageGraph} {out : ℕ} {evidence : List Float} {words : List ℕ} {w rIn rNew rLog rBuild pending rest : List Float} {n : ℕ} (N : NodeRows s t out evidence words w rIn rNew rLog rBuild pending rest n) where
   rows-roomy : width (t .directions) + width (t .directions) ≤ length w
