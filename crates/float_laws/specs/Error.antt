@@ -90,6 +90,10 @@ value-units nan s g h = absurd h
 value-units (inf t) s g h = absurd h
 value-units (fin t m e) s g h = by-quotient (m * up e * 2 ^ 149) (down e) g (down-pos e) (h .1)
 
+-- what rounding makes of a / c
+pub rounded-units : (x : Float) (a c : ℕ) → x ≡ round binary32 false a c → T (finite x) → val32 x ≡ grid binary32 a c
+rounded-units x a c e w = ap val32 e ∙ value-units (round binary32 false a c) false (grid binary32 a c) (round-val binary32 a c (round-under binary32 a c (rw e at w)))
+
 some-units : (s : Bool) (m : ℕ) (e : ℤ) → T (fits binary32 (fin s m e)) → (t : ℕ) × (m * up e * 2 ^ 149 ≡ t * down e)
 unfolding fits
 some-units s zero e t = (0, ap (λ (z : ℕ). z * 2 ^ 149) (zero-mul (up e)) ∙ zero-mul (2 ^ 149) ∙ sym (zero-mul (down e)))
@@ -142,21 +146,8 @@ split n = go (leb (2 ^ 23) n) (leb→le (2 ^ 23) n) (nleb→lt (2 ^ 23) n)
     go false f g = inl (g tt)
 
 -- with U taken off both sides: omega's numbers stay small
-strip : (G n U k l : ℕ) → 0 < U → G * U * k ≤ n * U * k + n * U + U * l → G * k ≤ n * k + n + l
-strip G n U k l p h =
-    let a : G * U * k ≡ G * k * U = mul-right-comm G U k in
-    let b : n * U * k ≡ n * k * U = mul-right-comm n U k in
-    let c : U * l ≡ l * U = mul-comm U l in
-    let d : (n * k + n + l) * U ≡ n * k * U + n * U + l * U = add-mul (n * k + n) l U ∙ ap (λ (z : ℕ). z + l * U) (add-mul (n * k) n U) in
-    le-of-mul-le-mul-right {k = U} (omega arith) p
-
-strip' : (G n U k l : ℕ) → 0 < U → n * U * k ≤ G * U * k + n * U + U * l → n * k ≤ G * k + n + l
-strip' G n U k l p h =
-    let a : G * U * k ≡ G * k * U = mul-right-comm G U k in
-    let b : n * U * k ≡ n * k * U = mul-right-comm n U k in
-    let c : U * l ≡ l * U = mul-comm U l in
-    let d : (G * k + n + l) * U ≡ G * k * U + n * U + l * U = add-mul (G * k + n) l U ∙ ap (λ (z : ℕ). z + l * U) (add-mul (G * k) n U) in
-    le-of-mul-le-mul-right {k = U} (omega arith) p
+pub strip : (a b n U k l : ℕ) → 0 < U → a * U * k ≤ b * U * k + n * U + U * l → a * k ≤ b * k + n + l
+strip a b n U k l p h = le-of-mul-le-mul-right {k = U} (omega arith) p
 
 small-step : (G n : ℕ) → G * 2 ^ 24 ≤ n * 2 ^ 24 + n + 2 ^ 23 → G * 2 ^ 23 ≤ n * 2 ^ 23 + n
 small-step G n h = elim (split n) [ inl l ↦ (let g : G < suc n = lt-of-mul-lt-mul-right (2 ^ 24) (omega arith) in omega arith) | inr l ↦ omega arith ]
@@ -171,10 +162,9 @@ add-near x y t u s r p q w =
     let n = val32 x + val32 y in
     let e = add-units x y t u s r p q in
     let G = grid binary32 n (2 ^ 149) in
-    let v : HasValue (round binary32 false n (2 ^ 149)) false G (2 ^ 149) = round-val binary32 n (2 ^ 149) (round-under binary32 n (2 ^ 149) (subst (λ (z : Float). T (finite z)) e w)) in
-    let g : val32 (add binary32 x y) ≡ G = ap val32 e ∙ value-units (round binary32 false n (2 ^ 149)) false G v in
+    let g = rounded-units (add binary32 x y) n (2 ^ 149) e w in
     let b = grid-near n (2 ^ 149) (pow-pos 149) in
-    (subst (λ (z : ℕ). z * 2 ^ 23 ≤ n * 2 ^ 23 + n) (sym g) (small-step G n (strip G n (2 ^ 149) (2 ^ 24) (2 ^ 23) (pow-pos 149) (b .0))), subst (λ (z : ℕ). n * 2 ^ 23 ≤ z * 2 ^ 23 + n) (sym g) (small-step' G n (strip' G n (2 ^ 149) (2 ^ 24) (2 ^ 23) (pow-pos 149) (b .1))))
+    (subst (λ (z : ℕ). z * 2 ^ 23 ≤ n * 2 ^ 23 + n) (sym g) (small-step G n (strip G n n (2 ^ 149) (2 ^ 24) (2 ^ 23) (pow-pos 149) (b .0))), subst (λ (z : ℕ). n * 2 ^ 23 ≤ z * 2 ^ 23 + n) (sym g) (small-step' G n (strip n G n (2 ^ 149) (2 ^ 24) (2 ^ 23) (pow-pos 149) (b .1))))
 
 -- ---- a sum of a list: within k parts in 2 ^ 22 of the exact sum, k the number of entries added
 abbrev pub exactSum : ℕ → List Float → ℕ

@@ -3,9 +3,9 @@ use mathlib.Core.Path.{_≡_, _∙_, subst, sym, ap}
 use mathlib.Core.Logic.{_⊎_, inl, inr}
 use mathlib.Core.Bool.{Bool, true, false, not, cond}
 use mathlib.Core.List.{List, [], _∷_}
-use Prim.Native.Nat.{ℕ, zero, suc, _+_, _<_}
+use Prim.Native.Nat.{ℕ, zero, suc, _+_, _≤_, _<_}
 use native.Mathlib.Nat.{add-zero, zero-add, add-suc, suc-add, le-of-suc-le-suc, not-suc-le-zero, eq-or-lt-of-le}
-use lib.Dec.{T}
+use lib.Dec.{T, leb, leb→le}
 use lib.ListN.{length, getD}
 
 abbrev pub both : Bool → Bool → Bool
@@ -46,6 +46,10 @@ same-or-below k n h = eq-or-lt-of-le (le-of-suc-le-suc h)
 pub upto-at : (f : ℕ → Bool) (n : ℕ) → T (upto f n) → (k : ℕ) → k < n → T (f k)
 upto-at f zero t k h = absurd (not-suc-le-zero h)
 upto-at f (suc n) t k h = elim (same-or-below k n h) [ inl e ↦ subst (λ (m : ℕ). T (f m)) (sym e) (both-left (f n) (upto f n) t) | inr l ↦ upto-at f n (both-right (f n) (upto f n) t) k l ]
+
+-- f is at most g at each number below n
+pub upto-le : (f g : ℕ → ℕ) (n : ℕ) → T (upto (λ (k : ℕ). leb (f k) (g k)) n) → (k : ℕ) → k < n → f k ≤ g k
+upto-le f g n t k h = leb→le (f k) (g k) (upto-at (λ (i : ℕ). leb (f i) (g i)) n t k h)
 
 -- ---- `if b { x } else { y }`, by what the test says
 pub chose : {X : Type 0} (b : Bool) (x y : X) → b ≡ true → x ≡ cond b x y

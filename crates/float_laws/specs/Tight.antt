@@ -22,36 +22,40 @@ use Rattle.float_laws.specs.Products.{zipMul, zip-atMost, zip-length, at
 near-1024 : (n E S : ℕ) → n ≤ 2 ^ 10 → Near n E S → (S * 4096 ≤ E * 4097) × (E * 4095 ≤ S * 4096)
 near-1024 n E S h i = let m : E * n ≤ E * 2 ^ 10 = mul-le-mul-left E h in (omega (arith, i .over, i .under), omega (arith, i .over, i .under))
 
--- ---- the shares' total
-ends : (n E G S U : ℕ) → 0 < S → n ≤ 2 ^ 10 → n * 2 ^ 23 * 4096 ≤ U → Near n E S → G * S * 2 ^ 24 ≤ E * U * 2 ^ 24 + E * U + n * (S * 2 ^ 23) → E * U * 2 ^ 24 ≤ G * S * 2 ^ 24 + E * U + n * (S * 2 ^ 23) → (63 * U ≤ 64 * G) × (64 * G ≤ 65 * U)
-ends n E G S U p h k i a b =
-    let r = near-1024 n E S h i in
-    let x : S * 4096 * U ≤ E * 4097 * U = mul-le-mul-right U (r .0) in
-    let y : E * 4095 * U ≤ S * 4096 * U = mul-le-mul-right U (r .1) in
-    let e₁ : S * 4096 * U ≡ S * U * 4096 = mul-right-comm S 4096 U in
-    let e₂ : E * 4097 * U ≡ E * U * 4097 = mul-right-comm E 4097 U in
-    let e₃ : E * 4095 * U ≡ E * U * 4095 = mul-right-comm E 4095 U in
-    let z : n * (S * 2 ^ 23) * 4096 ≤ S * U = le-trans (le-of-eq (ap (λ (t : ℕ). t * 4096) (mul-left-comm n S (2 ^ 23)) ∙ mul-assoc S (n * 2 ^ 23) 4096)) (mul-le-mul-left S k) in
-    let c : 63 * (S * U) ≤ 64 * (G * S) = omega arith in
-    let d : 64 * (G * S) ≤ 65 * (S * U) = omega arith in
-    let f₁ : 63 * U * S ≡ 63 * (S * U) = mul-assoc 63 U S ∙ ap (λ (t : ℕ). 63 * t) (mul-comm U S) in
-    let f₂ : 65 * U * S ≡ 65 * (S * U) = mul-assoc 65 U S ∙ ap (λ (t : ℕ). 65 * t) (mul-comm U S) in
-    let f₃ : 64 * G * S ≡ 64 * (G * S) = mul-assoc 64 G S in
-    (le-of-mul-le-mul-right {k = S} (omega arith) p, le-of-mul-le-mul-right {k = S} (omega arith) p)
+-- ---- the shares' total: within 4 n + 3 parts in 2 ^ 24 of 1
+pub record SharesTotal (n U G : ℕ) : Type 0 where
+  pub over : G * 2 ^ 24 ≤ U * 2 ^ 24 + U * (4 * n + 3)
+  pub under : U * 2 ^ 24 ≤ G * 2 ^ 24 + U * (4 * n + 3)
 
-pub shares-one : (K : ℕ) (xs : List Float) → length xs * K ≤ 2 ^ 24 → length xs ≤ 2 ^ 10 → K ≤ 2 ^ 24 → AllAtMost K xs → T (positive (sumFrom zeroᶠ xs))
-    → (63 * 2 ^ 149 ≤ 64 * exactSum 0 (map (λ (x : Float). div binary32 x (sumFrom zeroᶠ xs)) xs)) × (64 * exactSum 0 (map (λ (x : Float). div binary32 x (sumFrom zeroᶠ xs)) xs) ≤ 65 * 2 ^ 149)
-shares-one K xs g h k n q =
+-- G S is near E U and S near E, so G is near U
+cancel : (n E G S U : ℕ) → 0 < S → n ≤ 2 ^ 10 → n * 2 ^ 24 ≤ U → Near n E S → G * S * 2 ^ 24 ≤ E * U * 2 ^ 24 + E * U + n * (S * 2 ^ 23) → E * U * 2 ^ 24 ≤ G * S * 2 ^ 24 + E * U + n * (S * 2 ^ 23) → SharesTotal n U G
+cancel n E G S U p h k i a b =
+    let c : E * U * 4095 ≤ S * U * 4096 = omega (arith, mul-le-mul-right U (near-1024 n E S h i .1)) in
+    let d : E * U * n * 3 ≤ S * U * n * 3 + S * U = omega (arith, mul-le-mul-right n c, mul-le-mul-left (S * U) h) in
+    let f : n * (S * 2 ^ 23) * 2 ≤ S * U = omega (arith, mul-le-mul-left S k) in
+    let x = mul-le-mul-right U (i .over) in
+    let y = mul-le-mul-right U (i .under) in
+    record { over = le-of-mul-le-mul-right {k = S} (omega arith) p; under = le-of-mul-le-mul-right {k = S} (omega arith) p }
+
+pub shares-total : (K : ℕ) (xs : List Float) → length xs * K ≤ 2 ^ 24 → length xs ≤ 2 ^ 10 → K ≤ 2 ^ 24 → AllAtMost K xs → T (positive (sumFrom zeroᶠ xs))
+    → SharesTotal (length xs) (2 ^ 149) (exactSum 0 (map (λ (x : Float). div binary32 x (sumFrom zeroᶠ xs)) xs))
+shares-total K xs g h k n q =
     let s = sumFrom zeroᶠ xs in
     let u = sum-fits zeroᶠ xs (unfold fits in tt) in
     let f = fine-of s u q xs (λ (i : ℕ) (l : i < length xs). let w = share-at K xs i g k n q l in finite-between zeroᶠ (div binary32 (getD xs i nan) s) oneᶠ tt tt (w .low) (w .high)) in
     let t = total-from s u q K 0 0 0 xs k (record { over = nothing (val32 s) (0 * 2 ^ 149 * 2 ^ 24 + 0 * 2 ^ 149 + 0 * (val32 s * 2 ^ 23)); under = zero-le }) n f in
-    ends (length xs) (exactSum 0 xs) (exactSum 0 (map (λ (x : Float). div binary32 x s) xs)) (val32 s) (2 ^ 149) (val-pos s u q) h (le-trans (mul-le-mul-right 4096 (mul-le-mul-right (2 ^ 23) h)) (lit≤ tt)) (sum-near K xs g (le-trans h (lit≤ tt)) k n)
-    (subst (λ (z : ℕ). exactSum 0 (map (λ (x : Float). div binary32 x s) xs) * val32 s * 2 ^ 24 ≤ exactSum 0 xs * 2 ^ 149 * 2 ^ 24 + exactSum 0 xs * 2 ^ 149 + z * (val32 s * 2 ^ 23)) (zero-add (length xs)) (t .over))
-    (subst (λ (z : ℕ). exactSum 0 xs * 2 ^ 149 * 2 ^ 24 ≤ exactSum 0 (map (λ (x : Float). div binary32 x s) xs) * val32 s * 2 ^ 24 + exactSum 0 xs * 2 ^ 149 + z * (val32 s * 2 ^ 23)) (zero-add (length xs)) (t .under))
+    let t' = rw (zero-add (length xs)) at t in
+    cancel (length xs) (exactSum 0 xs) (exactSum 0 (map (λ (x : Float). div binary32 x s) xs)) (val32 s) (2 ^ 149) (val-pos s u q) h (le-trans (mul-le-mul-right (2 ^ 24) h) (lit≤ tt)) (sum-near K xs g (le-trans h (lit≤ tt)) k n) (t' .over) (t' .under)
   where
     nothing : (v r : ℕ) → 0 * v * 2 ^ 24 ≤ r
     nothing v r = omega arith
+
+pub shares-one : (K : ℕ) (xs : List Float) → length xs * K ≤ 2 ^ 24 → length xs ≤ 2 ^ 10 → K ≤ 2 ^ 24 → AllAtMost K xs → T (positive (sumFrom zeroᶠ xs))
+    → (63 * 2 ^ 149 ≤ 64 * exactSum 0 (map (λ (x : Float). div binary32 x (sumFrom zeroᶠ xs)) xs)) × (64 * exactSum 0 (map (λ (x : Float). div binary32 x (sumFrom zeroᶠ xs)) xs) ≤ 65 * 2 ^ 149)
+shares-one K xs g h k n q = ends (length xs) (2 ^ 149) _ h (shares-total K xs g h k n q)
+  where
+    ends : (n U G : ℕ) → n ≤ 2 ^ 10 → SharesTotal n U G → (63 * U ≤ 64 * G) × (64 * G ≤ 65 * U)
+    ends n U G h t = omega (arith, mul-le-mul-left U h)
 
 -- ---- a sum of products from below
 most : (A B P S n U : ℕ) → 0 < U → n ≤ 2 ^ 10 → 64 * n ≤ B → 63 * U ≤ 64 * A → Near n P S → A * B * 16777215 ≤ P * U * 16777216 + n * (U * 8388608) → 7 * B ≤ 8 * S

@@ -10,8 +10,7 @@ use lib.ListN.{length, getD}
 use lib.Pow.{pow-pos}
 use lib.Ieee.{Float, nan, inf, fin, binary32, round, add, div, neg, le, fits}
 use lib.Ieee.Fits.{add-fits, div-fits, up-pos}
-use lib.Ieee.Exact.{HasValue}
-use lib.Ieee.Scale.{grid, finite, round-val, round-under, round-same}
+use lib.Ieee.Scale.{finite, round-same}
 use lib.Ieee.Positive.{num, den, den-pos, positive, positive-finite}
 use Rattle.float_laws.specs.Order.{le-trans-at, le-refl-at, finite-between, finite-number}
 use Rattle.float_laws.specs.Rounded.{clear, round-clear, neg-le-clear}
@@ -19,7 +18,7 @@ use Rattle.float_laws.specs.Ops.{div-at}
 use Rattle.float_laws.specs.Laws.{zeroᶠ, oneᶠ}
 use Rattle.float_laws.specs.Interval.{In}
 use Rattle.float_laws.specs.Sums.{sumFrom, Each, ofNat, whole-finite, next-in, share-in, sum-above, one-is}
-use Rattle.float_laws.specs.Error.{val32, units-exact, value-units, add-units, add-near, grid-near, exactSum, Near, near-step}
+use Rattle.float_laws.specs.Error.{val32, units-exact, rounded-units, add-units, add-near, grid-near, exactSum, Near, near-step}
 
 pub record AtMost (K : ℕ) (x : Float) : Type 0 where
   pub held : T (fits binary32 x)
@@ -119,11 +118,8 @@ share-near K x s k n u q w =
     let X = val32 x in
     let S = val32 s in
     let e = div-units x s (n .held) u (n .clear-sign) p q in
-    let G = grid binary32 X S in
-    let v : HasValue (round binary32 false X S) false G (2 ^ 149) = round-val binary32 X S (round-under binary32 X S (subst (λ (z : Float). T (finite z)) e w)) in
-    let g : val32 (div binary32 x s) ≡ G = ap val32 e ∙ value-units (round binary32 false X S) false G v in
     let b = grid-near X S (val-pos s u q) in
-    subst (Share X S) (sym g) (record { over = b .0; under = b .1 })
+    subst (Share X S) (sym (rounded-units (div binary32 x s) X S e w)) (record { over = b .0; under = b .1 })
 
 -- ---- the shares of a list, added exactly
 module _ (s : Float) (u : T (fits binary32 s)) (q : T (positive s)) where

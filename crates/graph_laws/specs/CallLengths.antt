@@ -1,9 +1,9 @@
 -- The call's contract can be met: whatever is lent, every buffer comes back with its length; a refusal leaves all as it was; what is answered fits.
-use Prim.Native.Nat.{ℕ, zero, suc, _*_, _^_, _≤_, _<_}
+use Prim.Native.Nat.{ℕ, _*_, _^_, _≤_, _<_}
 use native.Mathlib.Omega.{arith}
 use mathlib.Core.Path.{_≡_, refl, ap}
 use mathlib.Core.Bool.{false}
-use mathlib.Core.List.{List, [], _∷_}
+use mathlib.Core.List.{List}
 use lib.Ieee.{Float}
 use lib.ListN.{length, drop, replicate, length-append, length-drop, length-replicate}
 use Rattle.graph_laws.specs.Bools.{or-no, no-ltb}
@@ -13,7 +13,7 @@ use Rattle.definition.specs.FactorGraph.{Bale}
 use Rattle.definition.specs.Answer.{answer, answeredBeliefs, beliefNumbers, beliefFloats, endingNumbers, endingFloats}
 use Rattle.definition.specs.Refusals.{Buffers, Verdict, accepted, refused, workNeeded, tooSmall, baleOf, verdict}
 use Rattle.definition.specs.Call.{Lent, sizesOf, answered, refusedAt, overwrite, answeredBy, resultOf, call}
-use Rattle.graph_laws.specs.Lists.{All, All-append}
+use Rattle.graph_laws.specs.Lists.{All, All-append, All-drop, All-replicate}
 use Rattle.graph_laws.specs.Accepted.{passes-all, sized}
 use Rattle.graph_laws.specs.Refused.{refused-small}
 use Rattle.graph_laws.specs.AnswerSizes.{answer-sizes}
@@ -89,17 +89,8 @@ pub record Invariant (l : Lent) : Type 0 where
   pub beliefNumbers : All (λ n. n < 2 ^ 32) (l .beliefNumbers)
   pub endingNumbers : All (λ n. n < 2 ^ 32) (l .endingNumbers)
 
-All-drop : {A : Type 0} (P : A → Type 0) (k : ℕ) (xs : List A) → All P xs → All P (drop k xs)
-All-drop P zero xs h = h
-All-drop P (suc k) [] h = tt
-All-drop P (suc k) (x ∷ xs) h = All-drop P k xs (h .1)
-
 All-over : {A : Type 0} (P : A → Type 0) (xs m : List A) → All P xs → All P m → All P (overwrite xs m)
 All-over P xs m h k = All-append P xs (drop (length xs) m) h (All-drop P (length xs) m k)
-
-All-replicate : {A : Type 0} (P : A → Type 0) (n : ℕ) (x : A) → P x → All P (replicate n x)
-All-replicate P zero x h = tt
-All-replicate P (suc n) x h = (h, All-replicate P n x h)
 
 result-fits : (s : Settings) (b : Bale) (l : Lent) (v : Verdict) → verdict s (sizesOf l) b ≡ v → Invariant l → Invariant (resultOf v s b l .lent)
 unfolding resultOf answeredBy

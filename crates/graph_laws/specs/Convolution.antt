@@ -84,20 +84,20 @@ row-after zero x (y ∷ b) (r ∷ l) (suc k) h = row-after zero x b l k (omega a
 -- ---- the terms of an entry
 
 -- those that the rows of a add to an entry, where the first row begins j - 1 entries before it, or, for j = 0, behind it
-terms : ℕ → List Float → List Float → List Float
+unfoldable pub terms : ℕ → List Float → List Float → List Float
 terms j a b = zipWith _⊗_ (drop (j - length b) a) (reverse (take j b))
 
-terms-none : (a b : List Float) → terms 0 a b ≡ []
+pub terms-none : (a b : List Float) → terms 0 a b ≡ []
 unfolding terms
 terms-none [] b = ap (λ (n : ℕ). zipWith _⊗_ (drop n []) []) (let e : 0 - length b ≡ 0 = omega arith in e)
 terms-none (x ∷ a) b = ap (λ (n : ℕ). zipWith _⊗_ (drop n (x ∷ a)) []) (let e : 0 - length b ≡ 0 = omega arith in e)
 
-terms-end : (j : ℕ) (b : List Float) → terms j [] b ≡ []
+pub terms-end : (j : ℕ) (b : List Float) → terms j [] b ≡ []
 unfolding terms
 terms-end j b = ap (λ (l : List Float). zipWith _⊗_ l (reverse (take j b))) (drop-nil (j - length b))
 
 -- the row adds a term
-terms-more : (j : ℕ) (x : Float) (a b : List Float) → j < length b → terms (suc j) (x ∷ a) b ≡ x ⊗ getD b j nan ∷ terms j a b
+pub terms-more : (j : ℕ) (x : Float) (a b : List Float) → j < length b → terms (suc j) (x ∷ a) b ≡ x ⊗ getD b j nan ∷ terms j a b
 unfolding terms
 terms-more j x a b h =
     ap (λ (n : ℕ). zipWith _⊗_ (drop n (x ∷ a)) (reverse (take (suc j) b))) (let e : suc j - length b ≡ 0 = omega arith in e)
@@ -106,7 +106,7 @@ terms-more j x a b h =
     ∙ ap (λ (n : ℕ). x ⊗ getD b j nan ∷ zipWith _⊗_ (drop n a) (reverse (take j b))) (let e : 0 ≡ j - length b = omega arith in e)
 
 -- it ends before the entry
-terms-same : (j : ℕ) (x : Float) (a b : List Float) → length b ≤ j → terms (suc j) (x ∷ a) b ≡ terms j a b
+pub terms-same : (j : ℕ) (x : Float) (a b : List Float) → length b ≤ j → terms (suc j) (x ∷ a) b ≡ terms j a b
 unfolding terms
 terms-same j x a b h =
     ap (λ (n : ℕ). zipWith _⊗_ (drop n (x ∷ a)) (reverse (take (suc j) b))) (let e : suc j - length b ≡ suc (j - length b) = omega arith in e)
@@ -133,6 +133,10 @@ rows-at (suc j) i (x ∷ a) b l k e h =
         ∙ ap (sumFrom (getD l k nan)) (sym (terms-more j x a b (g tt)))
 
 -- ---- the whole
+
+pub convolve-is : (a b : List Float) → convolve a b ≡ map (λ (k : ℕ). sumOf (terms (suc k) a b)) (range 0 (length a + length b - 1))
+unfolding convolve terms
+convolve-is a b = refl
 
 counted-at : (g : ℕ → Float) (i n k : ℕ) → k < n → getD (map g (range i n)) k nan ≡ g (i + k)
 counted-at g i zero k h = absurd (not-suc-le-zero h)

@@ -1,6 +1,6 @@
 -- What a run reads by number is there: after any events that begin with the opening, what waits in the queue is a direction, the nodes to be copied are nodes,
 -- a node's outward directions are directions and its neighbours are nodes.
-use Prim.Native.Nat.{ℕ, zero, suc, _<_}
+use Prim.Native.Nat.{ℕ, suc, _<_}
 use native.Mathlib.Omega.{arith}
 use mathlib.Core.Path.{_≡_, refl}
 use mathlib.Core.Bool.{Bool, true, false}
@@ -16,22 +16,12 @@ use Rattle.definition.specs.Directions.{Direction, noDirection, MessageGraph, n
 use Rattle.definition.specs.Sweeps.{Store, opening, sweep}
 use Rattle.definition.specs.Run.{State, beginLoop, MessageUpdate, updateSingle, neighbourNumbers, updateTree, updateMessage, otherOutgoing, scheduledStep, Event, opened, swept, stepped, applyEvent, stateAfter}
 use Rattle.definition.specs.Priorities.{Highest, highestPriority}
-use Rattle.graph_laws.specs.Lists.{All, All-append, All-map-into}
+use Rattle.graph_laws.specs.Lists.{All, All-append, All-map-into, All-take, All-drop}
 use Rattle.graph_laws.specs.Ranks.{upto-below}
 use Rattle.graph_laws.specs.Places.{All-numbered}
 use Rattle.graph_laws.specs.Consistency.{NodeFits, DirectionFits, Consistent}
 use Rattle.graph_laws.specs.MessageCounts.{Counts, opening-counts, begin-counts, applyEvent-counts, counted}
 use Rattle.graph_laws.specs.Highest.{IsHighest, top-highest, in-range}
-
-All-take : {X : Type 0} (P : X → Type 0) (n : ℕ) (xs : List X) → All P xs → All P (take n xs)
-All-take P zero xs h = tt
-All-take P (suc n) [] h = tt
-All-take P (suc n) (x ∷ xs) h = (h .0, All-take P n xs (h .1))
-
-All-drop : {X : Type 0} (P : X → Type 0) (n : ℕ) (xs : List X) → All P xs → All P (drop n xs)
-All-drop P zero xs h = h
-All-drop P (suc n) [] h = tt
-All-drop P (suc n) (x ∷ xs) h = All-drop P n xs (h .1)
 
 -- what waits after the events
 module _ (s : Settings) (t : MessageGraph) (es : List Event) (x : State) where

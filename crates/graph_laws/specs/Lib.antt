@@ -34,12 +34,13 @@ pub mod Accepted
 pub mod LocalAnswer
 pub mod ByNames
 pub mod Structure
--- Directions and positions in the message graph of a part; what a run reads and keeps.
+-- Directions and positions in the message graph of a part; what a run reads and keeps; what trees sent of what is in force.
 pub mod Places
 pub mod Consistency
 pub mod DirectionNumbers
 pub mod MessageCounts
 pub mod Unread
+pub mod SentByTrees
 pub mod Highest
 pub mod InRange
 pub mod Linked
@@ -49,3 +50,5 @@ pub mod Subsets
 pub mod AnswerSizes
 pub mod CallLengths
 pub mod Refused
+-- The presence patterns over which an exact sum runs.
+pub mod Patterns

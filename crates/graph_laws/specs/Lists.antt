@@ -3,7 +3,7 @@ use mathlib.Core.Path.{_≡_, refl, sym, ap, subst}
 use mathlib.Core.Bool.{Bool, true, false, _||_, false≢true, or-true}
 use mathlib.Core.List.{List, [], _∷_, _++_, map}
 use Prim.Native.Nat.{ℕ, zero, suc}
-use lib.ListN.{length}
+use lib.ListN.{length, take, drop, replicate}
 use Rattle.definition.specs.Lists.{range, consIf, filter, mem}
 
 -- the numbers below n
@@ -55,6 +55,20 @@ module _ {A : Type 0} (P : A → Type 0) where
   pub All-right : (xs ys : List A) → All P (xs ++ ys) → All P ys
   All-right [] ys p = p
   All-right (x ∷ xs) ys p = All-right xs ys (p .1)
+
+  pub All-take : (n : ℕ) (xs : List A) → All P xs → All P (take n xs)
+  All-take zero xs p = tt
+  All-take (suc n) [] p = tt
+  All-take (suc n) (x ∷ xs) p = (p .0, All-take n xs (p .1))
+
+  pub All-drop : (n : ℕ) (xs : List A) → All P xs → All P (drop n xs)
+  All-drop zero xs p = p
+  All-drop (suc n) [] p = tt
+  All-drop (suc n) (x ∷ xs) p = All-drop n xs (p .1)
+
+  pub All-replicate : (n : ℕ) (x : A) → P x → All P (replicate n x)
+  All-replicate zero x p = tt
+  All-replicate (suc n) x p = (p, All-replicate n x p)
 
 module _ {A : Type 0} (P Q : A → Type 0) where
   pub All-mono : ((a : A) → P a → Q a) → (xs : List A) → All P xs → All Q xs

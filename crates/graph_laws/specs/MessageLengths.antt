@@ -20,7 +20,7 @@ use Rattle.definition.specs.Run.{State, Event, opened, stateAfter}
 use Rattle.definition.specs.Sweeps.{initialMessage, openingInput, logTotal, leaveOneOut, openingVariable, openingGrade}
 use Rattle.graph_laws.specs.Lists.{All}
 pub use Rattle.graph_laws.specs.Lists.{length-count}
-use Rattle.graph_laws.specs.Invariant.{Holding, Each, SendsHolding, Invariant, each-messagesIn, in-force}
+use Rattle.graph_laws.specs.Invariant.{Holding, Each, SendsHolding, BuiltHolding, Anything, Invariant, each-messagesIn, in-force}
 use Rattle.graph_laws.specs.Lengths.{Long, length-outMessageFactor, length-outMessageVariable, treeShape}
 
 -- by the kinds of a direction's start and end, how long its messages are
@@ -208,16 +208,22 @@ module _ (s : Settings) (t : MessageGraph) (S : Sound t) where
       each-built t (incoming x) (x .outgoing) (messagesIn x ms) (simp (length-take, length-drop) (omega (arith, covers t ms (S .wide) f, a .inside))) (length-count (x .firstIncoming) (length (x .outgoing))) (a .some-grades)
       (below-count _ (x .firstIncoming) (length (x .outgoing)) (a .inside)) (a .incoming-factorFirst) (a .outgoing-factorFirst) (each-messagesIn (AsLong t) x ms f)
 
-  all-trees : (xs : List MessageNode) → All (λ x. MessageNodeSound t (x .kind) x) xs → All (SendsHolding (AsLong t) isTree (λ x ms. treeOutMessages (messagesIn x ms))) xs
+  all-trees : (xs : List MessageNode) → All (λ x. MessageNodeSound t (x .kind) x) xs → All (BuiltHolding (AsLong t) Anything) xs
   all-trees [] a = tt
-  all-trees (x ∷ xs) a = ((λ h ms f. sends-tree (x .kind) x (a .0) h ms f), all-trees xs (a .1))
+  all-trees (x ∷ xs) a = ((λ h ms _ f. sends-tree (x .kind) x (a .0) h ms f), all-trees xs (a .1))
 
   fits-initialMessage : Holding (AsLong t) (map initialMessage (t .directions))
   fits-initialMessage d l = ap length (initialMessage-at (t .directions) d l) ∙ initialMessage-long (directionAt t d) (S .wide d l)
 
-  pub fits : Invariant s t (AsLong t)
-  fits = record { blanks = fits-initialMessage; inputs = all-inputs (t .nodes) (S .nodes); grades = all-grades (t .nodes) (S .nodes); trees = all-trees (t .nodes) (S .nodes); single = fits-one }
+  pub fits : Invariant s t (AsLong t) Anything
+  fits =
+      record {
+        blanks = fits-initialMessage;
+        inputs = all-inputs (t .nodes) (S .nodes);
+        grades = all-grades (t .nodes) (S .nodes);
+        preserved = record { trees = all-trees (t .nodes) (S .nodes); single = fits-one };
+      }
 
   -- the message of each direction is as long as the direction says
   pub as-long : (es : List Event) (x : State) (d : ℕ) → d < length (t .directions) → length (messageAt d (stateAfter s t (opened ∷ es) x .store .msgIn)) ≡ directionAt t d .messageLength
-  as-long es x d l = in-force s t (AsLong t) fits es x d l
+  as-long es x d l = in-force fits es x (λ us vs q. tt) d l

@@ -19,7 +19,7 @@ use Rattle.definition.specs.Messages.{initialBelief, outMessageVariable, outMes
 use Rattle.definition.specs.Run.{State, Event, opened, stateAfter}
 use Rattle.definition.specs.Sweeps.{initialMessage, openingInput, openingVariable, openingGrade}
 use Rattle.graph_laws.specs.Lists.{All}
-use Rattle.graph_laws.specs.Invariant.{Holding, Each, SendsHolding, Invariant, all-at, each-messagesIn, in-force}
+use Rattle.graph_laws.specs.Invariant.{Holding, Each, SendsHolding, BuiltHolding, Anything, Invariant, all-at, each-messagesIn, in-force}
 use Rattle.graph_laws.specs.Lengths.{Long}
 use Rattle.graph_laws.specs.MessageLengths.{AllBinary, FactorFirst, MessageNodeSound, Sound, AsLong, Below, below-count, length-count, length-belief-grade, length-belief-input, long-each, covers, fits}
 
@@ -140,7 +140,7 @@ module _ (Good : Message → Type 0) where
     fine-one : (ms : List Message) → Holding (Fine t) ms → (d : ℕ) → Fine t d (outMessage s t ms d)
     unfolding outMessage
     fine-one ms h d = (
-      fits s t (N .sound) .single ms (as-long-of ms h) d,
+      fits s t (N .sound) .preserved .single ms (as-long-of ms h) d,
       (λ l. good-outMessageBy (nodeAt t (directionAt t d .start) .kind) (nodeAt t (directionAt t d .end) .kind) (nodeAt t (directionAt t d .start)) (directionAt t d .endInStart) ms (messageAt d ms) (kept-at (directionAt t d .start)) (N .directions d l) h (h d .1 l)),
     )
 
@@ -185,44 +185,69 @@ module _ (Good : Message → Type 0) where
     all-grades (x ∷ xs) a b = ((λ h ms f. each-both (x .outgoing) _ (b .0 h ms (as-long-of ms f)) (each-good (x .outgoing) _ (good-grades (x .kind) x (a .0) h ms f))), all-grades xs (a .1) (b .1))
 
     -- ---- a tree
-    good-built : (k : ℕ) (is : List ℕ) (hs : List Message) → length hs ≡ k → length is ≡ k → 3 ≤ k → k ≤ 65 → Below Bound is → FactorFirst t k is → Each (AsLong t) is hs → Goods hs → Goods (treeOutMessages hs)
+    -- It holds a factor's message and those of 2 to 64 grades, all good.
+    abbrev pub OfHeld : (List Message → Type 0) → Type 0
+    OfHeld Q = (f : Message) (gs : List Message) → 2 ≤ length gs → length gs ≤ 64 → length f ≡ suc (length gs) → Good f → Long 2 gs → Goods gs → Q (f ∷ gs)
+
+    module _ (Q : List Message → Type 0) (q : OfHeld Q) where
+      held-built : (k : ℕ) (is : List ℕ) (hs : List Message) → length hs ≡ k → length is ≡ k → 3 ≤ k → k ≤ 65
+          → Below Bound is → FactorFirst t k is → Each (AsLong t) is hs → Goods hs → Q hs
+      held-built k is [] p r n m b l e g = absurd (let z : ⊥ = omega arith in z)
+      held-built k [] (f ∷ gs) p r n m b l e g = absurd (let z : ⊥ = omega arith in z)
+      held-built k (i ∷ is) (f ∷ gs) p r n m b l e g =
+          q f gs (omega arith) (omega arith) (e .0 (b .0) ∙ l .0 ∙ sym p) (g .0) (long-each t is gs (omega arith) (b .1) (l .1) (e .1)) (g .1)
+
+      held-by : (k : Kind) (x : MessageNode) → MessageNodeSound t k x → MessageNodeKept t s k x → T (isTree k)
+          → (ms : List Message) → Holding (Fine t) ms → Q (messagesIn x ms)
+      held-by grade x a c h ms f = absurd h
+      held-by (factor d) x a c h ms f = absurd h
+      held-by (input e) x a c h ms f = absurd h
+      held-by (tree d) x a c h ms f =
+          held-built (length (x .outgoing)) (incoming x) (messagesIn x ms) (simp (length-take, length-drop) (omega (arith, covers t ms (N .sound .wide) (as-long-of ms f), a .inside)))
+          (length-count (x .firstIncoming) (length (x .outgoing))) (a .some-grades) c (below-count Bound (x .firstIncoming) (length (x .outgoing)) (a .inside)) (a .incoming-factorFirst)
+          (each-messagesIn (AsLong t) x ms (as-long-of ms f)) (messagesIn-good x ms (a .inside) f)
+
+    good-built : OfHeld (λ hs. Goods (treeOutMessages hs))
     unfolding treeOutMessages
-    good-built k is [] p q n m b l e g = tt
-    good-built k [] (f ∷ gs) p q n m b l e g = absurd (let z : ⊥ = omega arith in z)
-    good-built k (i ∷ is) (f ∷ gs) p q n m b l e g =
-        K .trees f gs (omega arith) (omega arith) (e .0 (b .0) ∙ l .0 ∙ sym p) (g .0) (long-each t is gs (omega arith) (b .1) (l .1) (e .1)) (g .1)
+    good-built f gs n m l g b h = K .trees f gs n (omega arith) l g b h
 
-    good-trees : (k : Kind) (x : MessageNode) → MessageNodeSound t k x → MessageNodeKept t s k x → T (isTree k) → (ms : List Message) → Holding (Fine t) ms → Goods (treeOutMessages (messagesIn x ms))
-    good-trees grade x a c h ms f = absurd h
-    good-trees (factor d) x a c h ms f = absurd h
-    good-trees (input e) x a c h ms f = absurd h
-    good-trees (tree d) x a c h ms f =
-        good-built (length (x .outgoing)) (incoming x) (messagesIn x ms) (simp (length-take, length-drop) (omega (arith, covers t ms (N .sound .wide) (as-long-of ms f), a .inside)))
-        (length-count (x .firstIncoming) (length (x .outgoing))) (a .some-grades) c (below-count Bound (x .firstIncoming) (length (x .outgoing)) (a .inside)) (a .incoming-factorFirst)
-        (each-messagesIn (AsLong t) x ms (as-long-of ms f)) (messagesIn-good x ms (a .inside) f)
-
-    all-trees : (xs : List MessageNode) → All (λ x. MessageNodeSound t (x .kind) x) xs → All (λ x. MessageNodeKept t s (x .kind) x) xs → All (SendsHolding (AsLong t) isTree (λ x ms. treeOutMessages (messagesIn x ms))) xs → All (SendsHolding (Fine t) isTree (λ x ms. treeOutMessages (messagesIn x ms))) xs
+    all-trees : (xs : List MessageNode) → All (λ x. MessageNodeSound t (x .kind) x) xs → All (λ x. MessageNodeKept t s (x .kind) x) xs
+        → All (BuiltHolding (AsLong t) Anything) xs → All (BuiltHolding (Fine t) Anything) xs
     all-trees [] a c b = tt
-    all-trees (x ∷ xs) a c b = ((λ h ms f. each-both (x .outgoing) _ (b .0 h ms (as-long-of ms f)) (each-good (x .outgoing) _ (good-trees (x .kind) x (a .0) (c .0) h ms f))), all-trees xs (a .1) (c .1) (b .1))
+    all-trees (x ∷ xs) a c b = (
+      (λ h ms r f.
+          each-both (x .outgoing) _ (b .0 h ms r (as-long-of ms f))
+          (each-good (x .outgoing) _ (held-by (λ hs. Goods (treeOutMessages hs)) good-built (x .kind) x (a .0) (c .0) h ms f))),
+      all-trees xs (a .1) (c .1) (b .1),
+    )
 
     -- ---- the whole
-    abbrev lengths : Invariant s t (AsLong t)
+    abbrev lengths : Invariant s t (AsLong t) Anything
     lengths = fits s t (N .sound)
 
-    fine : Invariant s t (Fine t)
+    fine : Invariant s t (Fine t) Anything
     fine =
         record {
           blanks = (λ d. (lengths .blanks d, (λ l. good-initialMessage-at (t .directions) d l)));
           inputs = all-inputs (t .nodes) (N .nodes) (lengths .inputs);
           grades = all-grades (t .nodes) (N .nodes) (lengths .grades);
-          trees = all-trees (t .nodes) (N .sound .nodes) (N .nodes) (lengths .trees);
-          single = fine-one;
+          preserved = record { trees = all-trees (t .nodes) (N .sound .nodes) (N .nodes) (lengths .preserved .trees); single = fine-one };
         }
+
+    fine-in-force : (es : List Event) (x : State) → Holding (Fine t) (stateAfter s t (opened ∷ es) x .store .msgIn)
+    fine-in-force es x = in-force fine es x (λ us vs q. tt)
 
     -- After any list of events that begins with the opening, and from any state, every message in force is good.
     pub good-in-force : (es : List Event) (x : State) (d : ℕ) → d < length (t .directions) → Good (messageAt d (stateAfter s t (opened ∷ es) x .store .msgIn))
-    good-in-force es x d l = in-force s t (Fine t) fine es x d .1 l
+    good-in-force es x d l = fine-in-force es x d .1 l
 
     -- What a node holds then of two-entry messages is good too, and it is at most 1,024 of them.
     pub messagesIn-in-force : (es : List Event) (x : State) (y : MessageNode) → Paired t y → (length (messagesIn y (stateAfter s t (opened ∷ es) x .store .msgIn)) ≤ 1024) × Goods (messagesIn y (stateAfter s t (opened ∷ es) x .store .msgIn))
-    messagesIn-in-force es x y p = (messagesIn-few y _ p, messagesIn-good y _ (p .inside) (in-force s t (Fine t) fine es x))
+    messagesIn-in-force es x y p = (messagesIn-few y _ p, messagesIn-good y _ (p .inside) (fine-in-force es x))
+
+    -- And so is what a tree holds.
+    pub tree-in-force : (Q : List Message → Type 0) → OfHeld Q → (es : List Event) (x : State) (v : ℕ) → T (isTree (nodeAt t v .kind))
+        → Q (messagesIn (nodeAt t v) (stateAfter s t (opened ∷ es) x .store .msgIn))
+    tree-in-force Q q es x v h =
+        held-by Q q (nodeAt t v .kind) (nodeAt t v) (all-at (λ y. MessageNodeSound t (y .kind) y) noMessageNode (t .nodes) v tt (N .sound .nodes))
+        (kept-at v) h _ (fine-in-force es x)

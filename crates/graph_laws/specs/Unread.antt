@@ -3,7 +3,6 @@ use Prim.Native.Nat.{ℕ, zero, suc, _+_, _^_, _≤_, _<_}
 use native.Mathlib.Omega.{arith}
 use mathlib.Core.Path.{_≡_, refl, sym, ap, _∙_, subst}
 use mathlib.Core.Bool.{Bool, true, false, _||_, true≢false}
-use mathlib.Core.Option.{some}
 use mathlib.Core.List.{List, [], _∷_, map}
 use lib.Ieee.{Float}
 use lib.Dec.{eqb}
@@ -11,7 +10,7 @@ use lib.ListN.{length, getD, drop, set, length-set, length-map, length-take, len
 use lib.Seq.{getD-set-same, getD-set-other, ext-getD}
 use Rattle.graph_laws.specs.Convolution.{logLength-least}
 use Rattle.graph_laws.specs.Lengths.{length-countLayer, double, length-firstLayer}
-use Rattle.graph_laws.specs.Bools.{or-left, or-right, no-or, eqb-sound, eqb-same}
+use Rattle.graph_laws.specs.Bools.{or-left, or-right, no-or, either-arm, eqb-sound, eqb-same}
 use Rattle.definition.specs.Lists.{concat, mem}
 use Rattle.definition.specs.Vectors.{Message, normalize}
 use Rattle.definition.specs.Settings.{Settings}
@@ -40,7 +39,7 @@ length-likelihoodsBelow n (l ∷ ls) (a ∷ []) h k = absurd (let z : ⊥ = omeg
 length-likelihoodsBelow zero (l ∷ ls) (a ∷ b ∷ js) h k = absurd (let z : ⊥ = omega arith in z)
 length-likelihoodsBelow (suc n) (l ∷ ls) (a ∷ b ∷ js) h k = let r = length-likelihoodsBelow n ls js (omega arith) (omega arith) in omega (arith, r)
 
-length-likelihoods : (p : ℕ) (l : List Float) (js : List (List Float)) → length js ≡ 2 ^ p → length (treeLayers p l js .likelihoods) ≡ 2 ^ p
+pub length-likelihoods : (p : ℕ) (l : List Float) (js : List (List Float)) → length js ≡ 2 ^ p → length (treeLayers p l js .likelihoods) ≡ 2 ^ p
 unfolding treeLayers
 length-likelihoods zero l [] h = h
 length-likelihoods zero l (j ∷ js) h = refl
@@ -60,27 +59,19 @@ length-built (f ∷ ms) =
 pub length-messagesIn : (x : MessageNode) (ms : List Message) → x .firstIncoming + length (x .outgoing) ≤ length ms → length (messagesIn x ms) ≡ length (x .outgoing)
 length-messagesIn x ms h = omega (arith, length-take (length (x .outgoing)) (drop (x .firstIncoming) ms), length-drop (x .firstIncoming) ms)
 
-pub length-fromTree : (s : Settings) (ms : List Message) (x : MessageNode) (b : LastBuild) → x .firstIncoming + length (x .outgoing) ≤ length ms → length (outMessagesTree s ms x b .messages) ≡ length (x .outgoing)
+pub length-fromTree : (s : Settings) (ms : List Message) (x : MessageNode) (b : LastBuild)
+    → x .firstIncoming + length (x .outgoing) ≤ length ms → length (outMessagesTree s ms x b .messages) ≡ length (x .outgoing)
 unfolding outMessagesTree
-length-fromTree s ms x b h = go (needsRebuild (s .tolerance) (messagesIn x ms) b)
-  where
-    go : (c : Bool)
-        → length
-        ((elim c as (λ a. Outgoing) [
-          | true ↦ record { messages = treeOutMessages (messagesIn x ms); lastBuild = some (messagesIn x ms) }
-          | false ↦ record { messages = map (λ (o : ℕ). messageAt o ms) (x .outgoing); lastBuild = b }
-        ]) .messages)
-        ≡ length (x .outgoing)
-    go true = length-built (messagesIn x ms) ∙ length-messagesIn x ms h
-    go false = length-map (x .outgoing) (λ (o : ℕ). messageAt o ms)
+length-fromTree s ms x b h =
+    either-arm (λ (o : Outgoing). length (o .messages) ≡ length (x .outgoing)) (needsRebuild (s .tolerance) (messagesIn x ms) b) _ _
+    (λ _. length-built (messagesIn x ms) ∙ length-messagesIn x ms h) (λ _. length-map (x .outgoing) (λ (o : ℕ). messageAt o ms))
 
-pub length-outMessages : (s : Settings) (t : MessageGraph) (ms : List Message) (x : MessageNode) (b : LastBuild) → x .firstIncoming + length (x .outgoing) ≤ length ms → length (outMessages s t ms x b .messages) ≡ length (x .outgoing)
+pub length-outMessages : (s : Settings) (t : MessageGraph) (ms : List Message) (x : MessageNode) (b : LastBuild)
+    → x .firstIncoming + length (x .outgoing) ≤ length ms → length (outMessages s t ms x b .messages) ≡ length (x .outgoing)
 unfolding outMessages
-length-outMessages s t ms x b h = go (isTree (x .kind))
-  where
-    go : (c : Bool) → length ((elim c as (λ a. Outgoing) [ true ↦ outMessagesTree s ms x b | false ↦ record { messages = map (outMessage s t ms) (x .outgoing); lastBuild = b } ]) .messages) ≡ length (x .outgoing)
-    go true = length-fromTree s ms x b h
-    go false = length-map (x .outgoing) (outMessage s t ms)
+length-outMessages s t ms x b h =
+    either-arm (λ (o : Outgoing). length (o .messages) ≡ length (x .outgoing)) (isTree (x .kind)) _ _
+    (λ _. length-fromTree s ms x b h) (λ _. length-map (x .outgoing) (outMessage s t ms))
 
 -- ---- what is written is the same over any set
 

@@ -107,11 +107,8 @@ last-small (suc k) x h = wider (most k) largestFinite x (most-finite k) h
 
 -- ---- a state, by the steps that it counts
 module _ (s : Settings) (t : MessageGraph) (S : Sound t) (D : Apart t) where
-  abbrev Long : Store → Type 0
-  Long z = Stored s t (AsLong t) (lengths s t S) z
-
   pub record BoundedState (x : State) : Type 0 where
-    pub store : Long (x .store)
+    pub store : Stored (AsLong t) (x .store)
     pub pending : (d : ℕ) → Amount (x .steps) (getD (x .pending) d zeroᶠ)
     pub priorities : (d : ℕ) → Waits (x .steps) (getD (x .priorities) d none)
     pub lastResidual : Last (x .steps) (x .lastResidual)
@@ -129,7 +126,7 @@ module _ (s : Settings) (t : MessageGraph) (S : Sound t) (D : Apart t) where
   zeros (x ∷ ds) zero = zero-amount 0
   zeros (x ∷ ds) (suc d) = zeros ds d
 
-  bounded-begin : (z : Store) → Long z → BoundedState (beginLoop s t z)
+  bounded-begin : (z : Store) → Stored (AsLong t) z → BoundedState (beginLoop s t z)
   unfolding beginLoop
   bounded-begin z h = record { store = h; pending = zeros (t .directions); priorities = each (range 0 (length (t .directions))); lastResidual = refl }
     where
@@ -147,7 +144,7 @@ module _ (s : Settings) (t : MessageGraph) (S : Sound t) (D : Apart t) where
       let z : Pending k (set (x .pending) (b .direction) zeroᶠ) = λ d. set-at zeroᶠ (λ (i : ℕ) (y : Float). Amount k y) (x .pending) (b .direction) d zeroᶠ (h .pending d) (zero-amount k) in
       let p = add-once k _ _ (set (x .pending) (b .direction) zeroᶠ) r (D (w .end) (w .startInEnd)) (λ d. later k (suc k) _ (omega arith) (z d)) (λ d m. z d) in
       record {
-        store = stored-step s t (AsLong t) (lengths s t S) b x (h .store);
+        store = stored-step (lengths s t S .preserved) b x tt (h .store);
         pending = p;
         priorities = queue-wait (suc k) _ _ _ p (λ d. set-at none (λ (i : ℕ) (o : Option Float). Waits (suc k) o) (x .priorities) (b .direction) d none (waits-later k (suc k) (getD (x .priorities) d none) (omega arith) (h .priorities d)) tt);
         lastResidual = a;
@@ -159,12 +156,12 @@ module _ (s : Settings) (t : MessageGraph) (S : Sound t) (D : Apart t) where
   bounded-top (some b) x c h = bounded-step b x c h
 
   bounded-opening : BoundedState (beginLoop s t (opening s t))
-  bounded-opening = bounded-begin (opening s t) (stored-opening s t (AsLong t) (lengths s t S))
+  bounded-opening = bounded-begin (opening s t) (stored-opening (lengths s t S))
 
   bounded-applyEvent : (e : Event) (x : State) → BoundedState x → BoundedState (applyEvent s t e x)
   unfolding applyEvent
   bounded-applyEvent opened x h = bounded-opening
-  bounded-applyEvent swept x h = bounded-begin (sweep s t (x .store)) (stored-sweep s t (AsLong t) (lengths s t S) (x .store) (h .store))
+  bounded-applyEvent swept x h = bounded-begin (sweep s t (x .store)) (stored-sweep (lengths s t S .preserved) (x .store) tt (h .store))
   bounded-applyEvent stepped x h = bounded-top (highestPriority (x .priorities)) x (chosen-top (x .steps) (x .priorities) (h .priorities)) h
 
   bounded-on : (es : List Event) (x : State) → BoundedState x → BoundedState (stateAfter s t es x)

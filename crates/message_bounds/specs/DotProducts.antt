@@ -1,11 +1,12 @@
 -- Sums of products of two vectors of different lengths, from above and from below.
 use mathlib.Core.Path.{_≡_, refl, sym, ap, _∙_, subst}
 use mathlib.Core.List.{List, [], _∷_}
-use Prim.Native.Nat.{ℕ, zero, suc, _+_, _*_, _^_, _≤_, min}
-use native.Mathlib.Nat.{le-trans, le-of-eq, min-comm}
+use Prim.Native.Nat.{ℕ, zero, suc, _+_, _*_, _^_, _≤_}
+use native.Mathlib.Nat.{le-trans, le-of-eq}
 use native.Mathlib.Omega.{arith}
 use lib.Dec.{T, lit≤}
 use lib.ListN.{length, take, drop, length-take, length-drop}
+use lib.Seq.{length-take-le}
 use lib.Ieee.{Float, le, fits, ofInt}
 use Rattle.float_laws.specs.Laws.{zeroᶠ}
 use Rattle.float_laws.specs.Sums.{sumFrom, sum-grows}
@@ -40,10 +41,10 @@ sum-atMost-from K a (x ∷ xs) h n m =
     subst (λ (z : ℕ). AtMost z (sumFrom (a ⊕ x) xs)) (let e : K + 1 + length xs ≡ K + suc (length xs) = omega arith in e)
     (sum-atMost-from (K + 1) (a ⊕ x) xs (omega arith) (atMost-add K 1 a x (omega arith) n (m .0)) (m .1))
 
-pub sum-atMost : (K : ℕ) (xs : List Float) → length xs ≤ K → K ≤ 2 ^ 24 → AllAtMost 1 xs → AtMost K (sumFrom zeroᶠ xs)
+sum-atMost : (K : ℕ) (xs : List Float) → length xs ≤ K → K ≤ 2 ^ 24 → AllAtMost 1 xs → AtMost K (sumFrom zeroᶠ xs)
 sum-atMost K xs h k m = atMost-more (0 + length xs) K (sumFrom zeroᶠ xs) (omega arith) k (sum-atMost-from 0 zeroᶠ xs (omega arith) zero-atMost m)
 
-zip-short : (b l : List Float) → length (zipMul b l) ≤ length b
+pub zip-short : (b l : List Float) → length (zipMul b l) ≤ length b
 zip-short [] l = lit≤ tt
 zip-short (x ∷ b) [] = omega arith
 zip-short (x ∷ b) (y ∷ l) = let h = zip-short b l in omega arith
@@ -80,8 +81,9 @@ dot-most b l h p q t =
     let e = length-take (length l) b in
     let d = length-take (length b) l in
     let s : length x ≤ 1024 = omega arith in
-    subst (λ (z : List Float). 8 * val32 (sumFrom zeroᶠ z) ≤ 9 * 2 ^ 149) (sym (zip-cut b l))
-    (dot-under 1 x y (omega arith) (omega arith) (lit≤ tt) (e ∙ min-comm (length l) (length b) ∙ sym d) (atMost-take 1 (length l) b p) (atMost-take 1 (length b) l q) (scaled (exactSum 0 x) (exactSum 0 b) (65 * 2 ^ 149) (exact-take 0 (length l) b) t))
+    rw (zip-cut b l)
+    (dot-under 1 x y (omega arith) (omega arith) (lit≤ tt) (omega arith) (atMost-take 1 (length l) b p) (atMost-take 1 (length b) l q)
+    (scaled (exactSum 0 x) (exactSum 0 b) (65 * 2 ^ 149) (exact-take 0 (length l) b) t))
   where
     scaled : (a b u : ℕ) → a ≤ b → 64 * b ≤ u → 64 * a ≤ u
     scaled a b u h g = omega arith
@@ -93,14 +95,17 @@ sum-split (suc m) a [] l = refl
 sum-split (suc m) a (x ∷ b) [] = ap (sumFrom a) (sym (zip-none (drop m b)))
 sum-split (suc m) a (x ∷ b) (y ∷ l) = sum-split m (a ⊕ x ⊗ y) b l
 
-pub dot-least : (m B : ℕ) (b l : List Float) → length b ≤ 1024 → m ≤ length b → m ≤ length l → AllAtMost 1 b → AllAtMost 1 l → Zeros m b → 63 * 2 ^ 149 ≤ 64 * exactSum 0 b → AllOver B (take m l) → 64 * m ≤ B → 7 * B ≤ 8 * val32 (dot b l)
+pub dot-least : (m B : ℕ) (b l : List Float) → length b ≤ 1024 → m ≤ length b → m ≤ length l → AllAtMost 1 b → AllAtMost 1 l → Zeros m b
+    → 63 * 2 ^ 149 ≤ 64 * exactSum 0 b → AllOver B (take m l) → 64 * m ≤ B → 7 * B ≤ 8 * val32 (dot b l)
 dot-least m B b l h g k p q z t o u =
     let x = take m b in
     let y = take m l in
-    let e : length x ≡ m = length-take m b ∙ (let w : min m (length b) ≡ m = omega arith in w) in
-    let d : length y ≡ m = length-take m l ∙ (let w : min m (length l) ≡ m = omega arith in w) in
-    let low = dot-over 1 B x y (omega arith) (omega arith) (lit≤ tt) (e ∙ sym d) (atMost-take 1 m b p) (atMost-take 1 m l q) o (omega arith) (subst (λ (n : ℕ). 63 * 2 ^ 149 ≤ 64 * n) (sym (exact-live 0 m b z)) t) in
-    let s = dot-atMost m x y e (omega arith) (atMost-take 1 m b p) (atMost-take 1 m l q) in
+    let e : length x ≡ m = length-take-le m b g in
+    let d : length y ≡ m = length-take-le m l k in
+    let xn = atMost-take 1 m b p in
+    let yn = atMost-take 1 m l q in
+    let low = dot-over 1 B x y (omega arith) (omega arith) (lit≤ tt) (e ∙ sym d) xn yn o (omega arith) (rw exact-live t) in
+    let s = dot-atMost m x y e (omega arith) xn yn in
     let r = zipMul (drop m b) (drop m l) in
     let c = zip-short (drop m b) (drop m l) in
     let f = length-drop m b in
@@ -109,7 +114,8 @@ dot-least m B b l h g k p q z t o u =
     let w = dot-atMost (length b) b l refl (omega arith) p q in
     let v = subst (λ (z : Float). T (le (dot x y) z)) (sym (sum-split m zeroᶠ b l)) up in
     chain B (val32 (dot x y)) (val32 (dot b l)) low
-    (le→units (dot x y) (dot b l) (s .held) (w .held) (s .clear-sign) (w .clear-sign) (atMost-finite m (dot x y) (omega arith) s) (atMost-finite (length b) (dot b l) (omega arith) w) v)
+    (le→units (dot x y) (dot b l) (s .held) (w .held) (s .clear-sign) (w .clear-sign) (atMost-finite m (dot x y) (omega arith) s)
+    (atMost-finite (length b) (dot b l) (omega arith) w) v)
   where
     chain : (B a b : ℕ) → 7 * B ≤ 8 * a → a ≤ b → 7 * B ≤ 8 * b
     chain B a b h k = omega arith

@@ -8,11 +8,13 @@ pub mod Variable
 pub mod Normalized
 pub mod Factors
 -- What trees send: up to the root, and down again.
+pub mod Held
 pub mod Zeros
 pub mod Products
 pub mod Joint
 pub mod DotProducts
 pub mod Likelihoods
+pub mod TreeLayers
 pub mod Trees
 -- What an accepted call brings to it, and the whole.
 pub mod Accepted

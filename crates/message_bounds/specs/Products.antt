@@ -1,10 +1,11 @@
 -- The rows of a convolution: how large its entries are, and that each is at least every product in its sum.
 use mathlib.Core.Path.{_≡_, sym, subst}
+use mathlib.Core.Bool.{Bool, true, false, not}
 use mathlib.Core.List.{List, [], _∷_}
-use Prim.Native.Nat.{ℕ, zero, suc, _+_, _-_, _^_, _≤_, _<_}
+use Prim.Native.Nat.{ℕ, zero, suc, _+_, _-_, _^_, _≤_, _<_, zero-le}
 use native.Mathlib.Nat.{not-suc-le-zero, le-of-suc-le-suc}
 use native.Mathlib.Omega.{arith}
-use lib.Dec.{T, lit≤}
+use lib.Dec.{T, leb, leb→le, nleb→lt, lit≤}
 use lib.ListN.{length, getD, replicate, length-replicate}
 use lib.Ieee.{Float, nan, binary32, le, fits, ofInt}
 use lib.Ieee.Fits.{mul-fits}
@@ -13,7 +14,7 @@ use Rattle.float_laws.specs.Laws.{add-grows, add-grows-r}
 use Rattle.float_laws.specs.Totals.{AtMost, AllAtMost, atMost-finite, atMost-at, clear-low}
 use Rattle.definition.specs.Floats.{_⊕_, _⊗_, zeroᶠ}
 use Rattle.definition.specs.ConvolutionTree.{convolve}
-use Rattle.graph_laws.specs.Convolution.{addProducts, addAllProducts, length-addProducts, length-addAllProducts, convolve-accumulates}
+use Rattle.graph_laws.specs.Convolution.{addProducts, addAllProducts, length-addProducts, length-addAllProducts, convolve-accumulates, terms, terms-none, terms-end, terms-more, terms-same}
 use Rattle.message_bounds.specs.Normalized.{atMost-more, atMost-add, atMost-times}
 
 -- ---- sizes: a row adds at most 1 to each entry
@@ -45,6 +46,17 @@ convolve-atMost a b h n m =
     subst (AllAtMost (length a)) (sym (convolve-accumulates a b))
     (subst (λ (z : ℕ). AllAtMost z (addAllProducts 0 a b (replicate (length a + length b - 1) zeroᶠ))) (let e : 0 + length a ≡ length a = omega arith in e)
     (atMost-cpdRows 0 0 a b (replicate (length a + length b - 1) zeroᶠ) (omega arith) n m (zeros-atMost (length a + length b - 1))))
+
+-- ---- the products of an entry are between 0 and 1, and no more than there are entries
+pub terms-atMost : (j : ℕ) (a b : List Float) → AllAtMost 1 a → AllAtMost 1 b → AllAtMost 1 (terms j a b) × (length (terms j a b) ≤ length a)
+terms-atMost zero a b n m = rw terms-none (tt, zero-le)
+terms-atMost (suc j) [] b n m = rw terms-end (tt, zero-le)
+terms-atMost (suc j) (x ∷ a) b n m = go (terms-atMost j a b (n .1) m) (leb (length b) j) (leb→le (length b) j) (nleb→lt (length b) j)
+  where
+    go : AllAtMost 1 (terms j a b) × (length (terms j a b) ≤ length a) → (t : Bool) → (T t → length b ≤ j) → (T (not t) → j < length b)
+        → AllAtMost 1 (terms (suc j) (x ∷ a) b) × (length (terms (suc j) (x ∷ a) b) ≤ suc (length a))
+    go r true h _ = rw (terms-same j x a b (h tt)) (r .0, omega (arith, r .1))
+    go r false _ h = rw (terms-more j x a b (h tt)) ((atMost-times x (getD b j nan) (n .0) (atMost-at 1 b j m (h tt)), r .0), omega (arith, r .1))
 
 -- ---- an entry only grows
 number-at : (K : ℕ) (l : List Float) (k : ℕ) → K ≤ 2 ^ 24 → AllAtMost K l → k < length l → T (le (getD l k nan) (getD l k nan))

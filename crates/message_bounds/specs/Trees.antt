@@ -1,222 +1,116 @@
 -- What a tree sends is held.
-use mathlib.Core.Path.{_≡_, refl, sym, ap, _∙_, subst}
-use mathlib.Core.Bool.{Bool}
-use mathlib.Core.List.{List, [], _∷_, _++_, map}
+use mathlib.Core.Path.{_≡_, refl, subst}
+use mathlib.Core.List.{List, [], _∷_, map}
 use Prim.Native.Nat.{ℕ, zero, suc, _+_, _-_, _*_, _^_, _≤_, _<_}
-use native.Mathlib.Nat.{le-trans, le-of-eq, add-suc, suc-add, add-zero, zero-add, mul-le-mul-right}
+use native.Mathlib.Nat.{le-trans, le-of-eq, add-zero, add-assoc, add-comm, mul-le-mul-right}
 use native.Mathlib.Omega.{arith}
-use lib.Dec.{T, leb, leb→le, lit≤}
-use lib.ListN.{length, take, replicate, length-map}
-use lib.Ieee.{Float, binary32, div, fits}
-use lib.Ieee.Positive.{positive}
-use Rattle.float_laws.specs.Laws.{zeroᶠ}
-use Rattle.float_laws.specs.Sums.{sumFrom, sum-positive}
+use lib.Pow.{pow-mono}
+use lib.ListN.{length, take}
+use lib.Ieee.{Float}
 use Rattle.float_laws.specs.Error.{val32}
-use Rattle.float_laws.specs.Totals.{AtMost, AllAtMost, atMost-finite, atMost-each, sum-fits, shares-atMost}
-use Rattle.float_laws.specs.Products.{AllOver, atMost-take, le→units}
-use Rattle.float_laws.specs.Tight.{AllUnder, sum-under, share-tight}
-use Rattle.float_laws.specs.Table.{upto, upto-at}
-use Rattle.definition.specs.Floats.{c, zeroᶠ, oneᶠ}
-use Rattle.definition.specs.Vectors.{Message, binary, normalize, avoidUnderflowAll}
-use Rattle.definition.specs.ConvolutionTree.{countLayer, treeLayers, logLength, firstLayer, treeMessages}
+use Rattle.float_laws.specs.Totals.{AllAtMost}
+use Rattle.float_laws.specs.Products.{AllOver, atMost-take}
+use Rattle.float_laws.specs.Table.{upto-le}
+use Rattle.definition.specs.Floats.{c}
+use Rattle.definition.specs.Vectors.{Message, normalize, avoidUnderflowAll}
+use Rattle.definition.specs.ConvolutionTree.{messageUp, treeLayers, logLength, firstLayer, treeMessages}
 use Rattle.graph_laws.specs.Convolution.{logLength-least}
-use Rattle.graph_laws.specs.Lengths.{Long}
+use Rattle.graph_laws.specs.Lengths.{Long, length-normalize}
 use Rattle.graph_laws.specs.Sending.{Goods}
-use Rattle.message_bounds.specs.Bounded.{BoundedEntry, Bounded, avoidUnderflow-bounded}
-use Rattle.message_bounds.specs.Normalized.{entry-atMost, normalize-is}
-use Rattle.message_bounds.specs.Joint.{Joints, pairs, joints-countLayer, reals, joints-firstLayer}
-use Rattle.message_bounds.specs.Likelihoods.{LikelihoodBound, LikelihoodBounds, likelihoods-likelihoodsBelow}
+use Rattle.message_bounds.specs.Bounded.{Bounded, avoidUnderflow-bounded}
+use Rattle.message_bounds.specs.Normalized.{normalize-is}
+use Rattle.message_bounds.specs.Joint.{Joint, joined, real-leaf, padding}
+use Rattle.message_bounds.specs.Likelihoods.{LikelihoodBound, stepped}
+use Rattle.message_bounds.specs.Held.{HeldMessage, shareOf, held-shares, held-over}
+use Rattle.message_bounds.specs.TreeLayers.{Layered, Downs, all, first, spare, root-up, leaves-down}
 
--- ---- the bound of a layer whose vectors have 2 ^ q + 1 entries, in units of 2 ^ -149
-bound : ℕ → ℕ
-bound zero = 256
-bound (suc q) = 2 * (2 ^ q + 1) * bound q
+-- ---- layer q: how many entries its vectors have, and the bound of their likelihoods in units of 2 ^ -149
+abbrev pub width : ℕ → ℕ
+width q = 2 ^ q + 1
 
-bound-some : (q : ℕ) → 256 ≤ bound q
-unfolding bound
-bound-some zero = lit≤ tt
-bound-some (suc q) = grow (2 ^ q) (bound q) (bound-some q)
+abbrev pub bound : ℕ → ℕ → ℕ
+bound base zero = base
+bound base (suc q) = 2 * width q * bound base q
+
+pub bound-some : (base q : ℕ) → base ≤ bound base q
+bound-some base zero = le-of-eq refl
+bound-some base (suc q) = grow (2 ^ q) (bound base q) (bound-some base q)
   where
-    grow : (a b : ℕ) → 256 ≤ b → 256 ≤ 2 * (a + 1) * b
+    grow : (a b : ℕ) → base ≤ b → base ≤ 2 * (a + 1) * b
     grow a b h = omega arith
 
--- a layer below the root of a tree of at most 128 leaves
-size-test : ℕ → Bool
-size-test q = leb (2 ^ q + 1) 65
+-- below the root of a tree of at most 128 leaves
+pub short : (q : ℕ) → q < 7 → width q ≤ 65
+short q h = omega (arith, pow-mono {i = q} {j = 6} (omega arith))
 
-sizes-updateKind : T (upto size-test 7)
-unfolding size-test
-sizes-updateKind = tt
+pub wider : (q : ℕ) {r : ℕ} {j : List Float} → Joint (width q + width q - 1) r j → Joint (width (suc q)) r j
+wider q {r} {j} J = subst (λ (n : ℕ). Joint n r j) (let e : width q + width q - 1 ≡ width (suc q) = omega arith in e) J
 
-short : (q : ℕ) → q < 7 → 2 ^ q + 1 ≤ 65
-unfolding size-test
-short q h = leb→le (2 ^ q + 1) 65 (upto-at size-test 7 sizes-updateKind q h)
-
-wider : (q : ℕ) → 2 ^ q + 1 + (2 ^ q + 1) - 1 ≡ 2 ^ suc q + 1
-wider q = omega arith
-
--- ---- the number of real leaves under the root
-abbrev top : ℕ → List ℕ → ℕ
-top zero [] = 0
-top zero (r ∷ rs) = r
-top (suc p) rs = top p (pairs rs)
-
--- ---- up to the root, and down again
-above : (q : ℕ) (rs : List ℕ) (js : List (List Float)) → q < 7 → Joints (2 ^ q + 1) rs js → Joints (2 ^ suc q + 1) (pairs rs) (countLayer js)
-above q rs js h J = subst (λ (n : ℕ). Joints n (pairs rs) (countLayer js)) (wider q) (joints-countLayer (2 ^ q + 1) rs js (short q h) J)
-
-root-atMost : (p q : ℕ) (l : List Float) (rs : List ℕ) (js : List (List Float)) → q + p ≤ 7 → Joints (2 ^ q + 1) rs js → AllAtMost 1 (treeLayers p l js .root)
-unfolding treeLayers
-root-atMost zero q l rs [] h J = tt
-root-atMost zero q l [] (j ∷ js) h J = absurd J
-root-atMost zero q l (r ∷ rs) (j ∷ js) h J = J .0 .nice
-root-atMost (suc p) q l rs js h J = root-atMost p (suc q) l (pairs rs) (countLayer js) (omega arith) (above q rs js (omega arith) J)
-
-down : (p q : ℕ) (l : List Float) (rs : List ℕ) (js : List (List Float)) → q + p ≤ 7 → Joints (2 ^ q + 1) rs js → LikelihoodBound (bound (q + p)) (top p rs) l → LikelihoodBounds (bound q) rs (treeLayers p l js .likelihoods)
-unfolding treeLayers bound
-down zero q l rs [] h J L = tt
-down zero q l [] (j ∷ js) h J L = absurd J
-down zero q l (r ∷ rs) (j ∷ js) h J L = (subst (λ (n : ℕ). LikelihoodBound (bound n) r l) (add-zero q) L, tt)
-down (suc p) q l rs js h J L =
-    likelihoods-likelihoodsBelow (2 ^ q + 1) (bound (suc q)) (bound q) rs js (treeLayers p l (countLayer js) .likelihoods) (short q (omega arith)) (bound-some q) (le-of-eq refl) J
-    (down p (suc q) l (pairs rs) (countLayer js) (omega arith) (above q rs js (omega arith) J) (subst (λ (n : ℕ). LikelihoodBound (bound n) (top p (pairs rs)) l) (add-suc q p ∙ sym (suc-add q p)) L))
-
--- ---- how many real leaves there are
-abbrev sumℕ : List ℕ → ℕ
-sumℕ [] = 0
-sumℕ (r ∷ rs) = r + sumℕ rs
-
-pairs-sum : (n : ℕ) (rs : List ℕ) → length rs ≡ n + n → sumℕ (pairs rs) ≡ sumℕ rs
-pairs-sum n [] h = refl
-pairs-sum n (r ∷ []) h = absurd (let z : ⊥ = omega arith in z)
-pairs-sum zero (r ∷ s ∷ rs) h = absurd (let z : ⊥ = omega arith in z)
-pairs-sum (suc n) (r ∷ s ∷ rs) h = let e = pairs-sum n rs (omega arith) in omega arith
-
-pairs-length : (n : ℕ) (rs : List ℕ) → length rs ≡ n + n → length (pairs rs) ≡ n
-pairs-length n [] h = omega arith
-pairs-length n (r ∷ []) h = absurd (let z : ⊥ = omega arith in z)
-pairs-length zero (r ∷ s ∷ rs) h = absurd (let z : ⊥ = omega arith in z)
-pairs-length (suc n) (r ∷ s ∷ rs) h = ap suc (pairs-length n rs (omega arith))
-
-top-sum : (p : ℕ) (rs : List ℕ) → length rs ≡ 2 ^ p → top p rs ≡ sumℕ rs
-top-sum zero [] h = refl
-top-sum zero (r ∷ []) h = sym (add-zero r)
-top-sum zero (r ∷ s ∷ rs) h = absurd (let z : ⊥ = omega arith in z)
-top-sum (suc p) rs h = let d : length rs ≡ 2 ^ p + 2 ^ p = omega arith in top-sum p (pairs rs) (pairs-length (2 ^ p) rs d) ∙ pairs-sum (2 ^ p) rs d
-
-reals-sum : (n z : ℕ) → sumℕ (reals n z) ≡ n
-reals-sum zero zero = refl
-reals-sum zero (suc z) = let e = reals-sum zero z in omega arith
-reals-sum (suc n) z = let e = reals-sum n z in omega arith
-
-reals-length : (n z : ℕ) → length (reals n z) ≡ n + z
-reals-length zero zero = refl
-reals-length zero (suc z) = let e = reals-length zero z in omega arith
-reals-length (suc n) z = let e = reals-length n z in omega arith
-
--- ---- the root's likelihood: a factor's message, normalised
-bounded-atMost : (f : Message) → Bounded f → AllAtMost 1 f
-bounded-atMost [] h = tt
-bounded-atMost (x ∷ f) h = (entry-atMost x (h .0), bounded-atMost f (h .1))
-
-entry-under : (x : Float) → BoundedEntry x → 8 * val32 x ≤ 9 * 2 ^ 149
-entry-under x e =
-    let n = entry-atMost x e in
-    ninth (val32 x) (2 ^ 149) (le→units x oneᶠ (n .held) (unfold fits in tt) (n .clear-sign) tt (atMost-finite 1 x (lit≤ tt) n) tt (e .inside .high))
+-- ---- real leaves are counted
+abbrev counted : Layered 7
+counted =
+    record {
+      Leaves = ℕ;
+      none = 0;
+      leaf = λ (m : Message). 1;
+      and = λ (r s : ℕ). r + s;
+      and-none = add-zero;
+      and-assoc = add-assoc;
+      Up = λ (q r : ℕ) (j : List Float). Joint (width q) r j;
+      Down = λ (q before r after : ℕ) (l : List Float). LikelihoodBound (bound 256 q) r l;
+      padded = padding;
+      real = real-leaf;
+      joined = λ q r s a b h A B. wider q (joined A B (short q h));
+      left = λ q before r s after a b l h A B L. step q r s a b l h A B L;
+      right = λ q before r s after a b l h A B L. step q s r b a l h B A (rw (add-comm r) at L);
+    }
   where
-    ninth : (a u : ℕ) → a ≤ u → 8 * a ≤ 9 * u
-    ninth a u h = omega arith
+    step : (q r s : ℕ) (a b l : List Float) → q < 7 → Joint (width q) r a → Joint (width q) s b → LikelihoodBound (bound 256 (suc q)) (r + s) l
+        → LikelihoodBound (bound 256 q) r (messageUp (length a) b l)
+    step q r s a b l h A B L =
+        rw (A .long) (stepped (record { few = short q h; own = A .short; joint = B; bound = L; some = bound-some 256 q; step = le-of-eq refl }))
 
-entry-over : (x : Float) → BoundedEntry x → val32 c ≤ val32 x
-entry-over x e = let n = entry-atMost x e in le→units c x (unfold fits in tt) (n .held) tt (n .clear-sign) tt (atMost-finite 1 x (lit≤ tt) n) (e .inside .low)
+counted-all : (ms : List Message) → all counted (map (counted .leaf) ms) ≡ length ms
+counted-all [] = refl
+counted-all (m ∷ ms) = let e = counted-all ms in omega arith
 
-bounded-under : (f : Message) → Bounded f → AllUnder (2 ^ 149) f
-bounded-under [] h = tt
-bounded-under (x ∷ f) h = (entry-under x (h .0), bounded-under f (h .1))
-
-bounded-positive : (n : ℕ) (f : Message) → length f ≡ suc n → suc n ≤ 129 → Bounded f → T (positive (sumFrom zeroᶠ f))
-bounded-positive n [] e k h = absurd (let z : ⊥ = omega arith in z)
-bounded-positive n (x ∷ f) e k h = sum-positive 1 (x ∷ f) 0 c (omega arith) (atMost-each 1 (x ∷ f) (bounded-atMost (x ∷ f) h)) (omega arith) (unfold fits in tt) tt (h .0 .inside .low)
-
--- the bounds of all layers of such trees leave room
-root-test : ℕ → Bool
-root-test p = leb (1290 * bound p) (7 * val32 c)
-
-roots-updateKind : T (upto root-test 8)
-unfolding root-test bound
-roots-updateKind = tt
-
-root-room : (p : ℕ) → p ≤ 7 → 1290 * bound p ≤ 7 * val32 c
-unfolding root-test
-root-room p h = leb→le (1290 * bound p) (7 * val32 c) (upto-at root-test 8 roots-updateKind p (omega arith))
-
-root-like : (p n : ℕ) (f : Message) → p ≤ 7 → n ≤ 128 → length f ≡ suc n → Bounded f → LikelihoodBound (bound p) n (normalize f)
-root-like p n f h k e g =
-    subst (LikelihoodBound (bound p) n) (sym (normalize-is f))
-    (record { long = le-of-eq (sym (length-map f (λ (x : Float). div binary32 x s) ∙ e)); nice = shares; over = overs (suc n) f g shares })
+-- ---- the root: the factor's message, normalised
+pub root-bound : {n : ℕ} {f : Message} (M : HeldMessage n f) (B : ℕ) → 10 * suc n * B ≤ 7 * val32 c → LikelihoodBound B n (normalize f)
+root-bound {n} {f} M B h =
+    record {
+      long = omega (arith, length-normalize f, M .long);
+      nice = rw normalize-is (held-shares M);
+      over = rw normalize-is (overs (suc n) f (M .bounded) (held-shares M));
+    }
   where
-    s : Float
-    s = sumFrom zeroᶠ f
-
-    room : length f * 1 ≤ 2 ^ 24
-    room = omega arith
-
-    fine : T (positive s)
-    fine = bounded-positive n f e (omega arith) g
-
-    shares : AllAtMost 1 (map (λ (x : Float). div binary32 x s) f)
-    shares = shares-atMost 1 f room (lit≤ tt) (bounded-atMost f g) fine
-
-    small : 4 * val32 s ≤ 5 * suc n * 2 ^ 149
-    small = subst (λ (z : ℕ). 4 * val32 s ≤ 5 * z * 2 ^ 149) e (sum-under 1 f room (omega arith) (lit≤ tt) (bounded-atMost f g) (bounded-under f g))
-
-    enough : (m b a d : ℕ) → m ≤ 129 → 1290 * b ≤ 7 * a → 7 * a ≤ 2 * (5 * m) * d → b ≤ d
-    enough m b a d h u w =
-        let v : m * d ≤ 129 * d = mul-le-mul-right d h in
-        let q : 2 * (5 * m) * d ≡ 10 * (m * d) = omega arith in
-        omega arith
-
-    one-over : (x : Float) → BoundedEntry x → AtMost 1 (div binary32 x s) → bound p ≤ val32 (div binary32 x s)
-    one-over x i m =
-        enough (suc n) (bound p) (val32 c) (val32 (div binary32 x s)) (omega arith) (root-room p h)
-        (share-tight 1 (val32 c) (5 * suc n) x s (lit≤ tt) (entry-atMost x i) (sum-fits zeroᶠ f (unfold fits in tt)) fine (atMost-finite 1 (div binary32 x s) (lit≤ tt) m) (entry-over x i) small (le-trans (let w : 16 * (5 * suc n) ≤ 10320 = omega arith in w) (lit≤ tt)))
-
-    overs : (j : ℕ) (l : Message) → Bounded l → AllAtMost 1 (map (λ (x : Float). div binary32 x s) l) → AllOver (bound p) (take j (map (λ (x : Float). div binary32 x s) l))
+    overs : (j : ℕ) (l : Message) → Bounded l → AllAtMost 1 (map (shareOf f) l) → AllOver B (take j (map (shareOf f) l))
     overs zero l i m = tt
     overs (suc j) [] i m = tt
-    overs (suc j) (x ∷ l) i m = (one-over x (i .0) (m .0), overs j l (i .1) (m .1))
+    overs (suc j) (x ∷ l) i m = (held-over M B h x (i .0) (m .0), overs j l (i .1) (m .1))
+
+-- the bounds of all layers of such trees leave room
+root-room : (p n : ℕ) → p ≤ 7 → n ≤ 128 → 10 * suc n * bound 256 p ≤ 7 * val32 c
+root-room p n h k =
+    le-trans (mul-le-mul-right (bound 256 p) (let z : 10 * suc n ≤ 1290 = omega arith in z))
+    (upto-le (λ (q : ℕ). 1290 * bound 256 q) (λ (q : ℕ). 7 * val32 c) 8 tt p (omega arith))
 
 -- ---- all that a tree sends
-likelihoods-bounded : (B n : ℕ) (rs : List ℕ) (ls : List (List Float)) → LikelihoodBounds B rs ls → Goods Bounded (map (λ (l : List Float). avoidUnderflowAll (take 2 l)) (take n ls))
-likelihoods-bounded B zero rs ls L = tt
-likelihoods-bounded B (suc n) rs [] L = tt
-likelihoods-bounded B (suc n) [] (l ∷ ls) L = absurd L
-likelihoods-bounded B (suc n) (r ∷ rs) (l ∷ ls) L = (avoidUnderflow-bounded (take 2 l) (atMost-take 1 2 l (L .0 .nice)), likelihoods-bounded B n rs ls (L .1))
+likelihoods-bounded : (n before : ℕ) (rs : List ℕ) (ls : List (List Float)) → Downs counted 0 before rs ls
+    → Goods Bounded (map (λ (l : List Float). avoidUnderflowAll (take 2 l)) (take n ls))
+likelihoods-bounded zero before rs ls L = tt
+likelihoods-bounded (suc n) before rs [] L = tt
+likelihoods-bounded (suc n) before [] (l ∷ ls) L = absurd L
+likelihoods-bounded (suc n) before (r ∷ rs) (l ∷ ls) L =
+    (avoidUnderflow-bounded (take 2 l) (atMost-take 1 2 l (L .0 .nice)), likelihoods-bounded n (before + r) rs ls (L .1))
 
-pub trees-bounded : (f : Message) (ms : List Message) → length ms ≤ 128 → length f ≡ suc (length ms) → Bounded f → Long 2 ms → Goods Bounded ms → Goods Bounded (treeMessages f ms)
-unfolding treeMessages firstLayer
-trees-bounded f ms h e g l w = (
-  avoidUnderflow-bounded (take (suc n) (treeLayers p (normalize f) js .root)) (atMost-take 1 (suc n) (treeLayers p (normalize f) js .root) (root-atMost p 0 (normalize f) rs js (omega (arith, d)) J)),
-  likelihoods-bounded (bound 0) n rs (treeLayers p (normalize f) js .likelihoods) (down p 0 (normalize f) rs js (omega (arith, d)) J (subst (λ (k : ℕ). LikelihoodBound (bound k) (top p rs) (normalize f)) (sym (zero-add p)) (subst (λ (k : ℕ). LikelihoodBound (bound p) k (normalize f)) (sym real) (root-like p n f d h e g)))),
-)
-  where
-    n : ℕ
-    n = length ms
-
-    p : ℕ
-    p = logLength n
-
-    d : p ≤ 7
-    d = logLength-least n .1 7 h
-
-    rs : List ℕ
-    rs = reals n (2 ^ p - n)
-
-    js : List (List Float)
-    js = map normalize (ms ++ replicate (2 ^ p - n) (binary oneᶠ zeroᶠ))
-
-    J : Joints 2 rs js
-    J = joints-firstLayer ms (2 ^ p - n) l w
-
-    real : top p rs ≡ n
-    real = top-sum p rs (reals-length n (2 ^ p - n) ∙ (let z : n + (2 ^ p - n) ≡ 2 ^ p = omega (arith, logLength-least n .0) in z)) ∙ reals-sum n (2 ^ p - n)
+pub trees-bounded : (f : Message) (ms : List Message) → length ms ≤ 128 → length f ≡ suc (length ms) → Bounded f → Long 2 ms → Goods Bounded ms
+    → Goods Bounded (treeMessages f ms)
+unfolding treeMessages
+trees-bounded f ms h e g l w =
+    let p = logLength (length ms) in
+    let t = treeLayers p (normalize f) (firstLayer ms) in
+    let L = root-bound (record { few = h; long = e; bounded = g }) (bound 256 p) (root-room p (length ms) (logLength-least (length ms) .1 7 h) h) in (
+      avoidUnderflow-bounded (take (suc (length ms)) (t .root)) (atMost-take 1 (suc (length ms)) (t .root) (root-up counted ms h l w (normalize f) .nice)),
+      likelihoods-bounded (length ms) 0 (first counted ms (spare ms)) (t .likelihoods)
+          (leaves-down counted ms h l w (normalize f) (rw (counted-all ms) L)),
+    )

@@ -4,21 +4,19 @@ use native.Mathlib.Numerals.{add-one}
 use native.Mathlib.Omega.{arith}
 use mathlib.Core.Path.{_≡_, refl, sym, ap, _∙_}
 use mathlib.Core.Bool.{Bool, true, false}
-use mathlib.Core.Option.{none, some}
-use mathlib.Core.List.{List, [], _∷_, _++_, map}
-use lib.Dec.{T}
+use mathlib.Core.Option.{none}
+use mathlib.Core.List.{List, [], _∷_, _++_}
 use lib.Ieee.{Float}
 use lib.ListN.{length, getD, take}
 use Rattle.definition.specs.Vectors.{Message}
 use Rattle.definition.specs.Settings.{Settings}
-use Rattle.definition.specs.FactorGraph.{Kind, isTree}
-use Rattle.definition.specs.Directions.{Direction, MessageNode, MessageGraph, noMessageNode, nodeAt, directionAt, messageAt, messagesIn, setMessages}
-use Rattle.definition.specs.Messages.{LastBuild, Outgoing, outMessage, needsRebuild, treeOutMessages, outMessagesTree, outMessages}
+use Rattle.definition.specs.FactorGraph.{Kind}
+use Rattle.definition.specs.Directions.{Direction, MessageNode, MessageGraph, noMessageNode, nodeAt, messageAt, setMessages}
+use Rattle.definition.specs.Messages.{LastBuild, outMessages}
 use Rattle.definition.specs.Sweeps.{updateKind, computeUpdate}
-use Rattle.graph_laws.specs.AloneChecks.{All-getD}
-use Rattle.graph_laws.specs.Invariant.{Each, SendsHolding, each-map}
+use Rattle.graph_laws.specs.Invariant.{Each, each-outMessages}
 use Rattle.graph_laws.specs.MessageLengths.{AsLong, Sound, fits}
-use Rattle.graph_laws.specs.Unread.{length-fromTree, length-outMessages}
+use Rattle.graph_laws.specs.Unread.{length-outMessages}
 use Rattle.messages.specs.Layout.{cut, width}
 use Rattle.messages.specs.LayoutCut.{SetFits}
 use Rattle.messages.specs.LayoutWrite.{Takes, sent, setMessages-cut, length-sent}
@@ -36,7 +34,7 @@ setMessages-sends ds os ms r e s = setMessages-cut ds os ms r e (s .count) (s .t
 pub length-sends : (ds : List Direction) (os : List ℕ) (ms : List Message) (r : List Float) (i : ℕ) → i ≤ length os → length r ≡ width ds → Sends ds os ms → length (sent ds os ms r i) ≡ width ds
 length-sends ds os ms r i h e s = length-sent ds os ms r i e (λ k q. s .takes k (omega arith))
 
-module _ (s : Settings) (t : MessageGraph) (S : Sound t) (ms : List Message) (F : SetFits (t .directions) ms) (n : ℕ) (h : n < length (t .nodes))
+module _ (s : Settings) (t : MessageGraph) (S : Sound t) (ms : List Message) (F : SetFits (t .directions) ms) (n : ℕ)
     (inside : nodeAt t n .firstIncoming + length (nodeAt t n .outgoing) ≤ length (t .directions)) (there : (k : ℕ) → k < length (nodeAt t n .outgoing) → getD (nodeAt t n .outgoing) k 0 < length (t .directions)) where
   abbrev x : MessageNode
   x = nodeAt t n
@@ -50,36 +48,12 @@ module _ (s : Settings) (t : MessageGraph) (S : Sound t) (ms : List Message) (F 
   each-sends : (l : List Message) → length l ≡ length (x .outgoing) → Each (AsLong t) (x .outgoing) l → Sends (t .directions) (x .outgoing) l
   each-sends l c a = record { count = c; takes = (λ k q. record { there = there k q; long = each-at (x .outgoing) l k a q (omega arith) (there k q) }) }
 
-  sent-if : (b : Bool) (y z : Outgoing) → (T b → Each (AsLong t) (x .outgoing) (y .messages)) → Each (AsLong t) (x .outgoing) (z .messages) → Each (AsLong t) (x .outgoing) ((elim b as (λ c. Outgoing) [ true ↦ y | false ↦ z ]) .messages)
-  sent-if true y z p q = p tt
-  sent-if false y z p q = q
-
   room : x .firstIncoming + length (x .outgoing) ≤ length ms
   room = omega (arith, inside, F .count)
 
-  each-tree : (b : LastBuild) → T (isTree (x .kind)) → Each (AsLong t) (x .outgoing) (outMessagesTree s ms x b .messages)
-  unfolding outMessagesTree
-  each-tree b k =
-      sent-if (needsRebuild (s .tolerance) (messagesIn x ms) b) (record { messages = treeOutMessages (messagesIn x ms); lastBuild = some (messagesIn x ms) })
-      (record { messages = map (λ (o : ℕ). messageAt o ms) (x .outgoing); lastBuild = b })
-      (λ _. All-getD (SendsHolding (AsLong t) isTree (λ x ms. treeOutMessages (messagesIn x ms))) (t .nodes) (fits s t S .trees) noMessageNode n h k ms (F .long))
-      (each-map (AsLong t) (λ (o : ℕ). messageAt o ms) (x .outgoing) (F .long))
-
-  pub tree-sends : (b : LastBuild) → T (isTree (x .kind)) → Sends (t .directions) (x .outgoing) (outMessagesTree s ms x b .messages)
-  tree-sends b k = each-sends (outMessagesTree s ms x b .messages) (length-fromTree s ms x b room) (each-tree b k)
-
-  each-node : (b : LastBuild) → Each (AsLong t) (x .outgoing) (outMessages s t ms x b .messages)
-  unfolding outMessages
-  each-node b =
-      sent-if (isTree (x .kind)) (outMessagesTree s ms x b) (record { messages = map (outMessage s t ms) (x .outgoing); lastBuild = b }) (each-tree b)
-      (each-map (AsLong t) (outMessage s t ms) (x .outgoing) (fits s t S .single ms (F .long)))
-
   pub node-sends : (b : LastBuild) → Sends (t .directions) (x .outgoing) (outMessages s t ms x b .messages)
-  node-sends b = each-sends (outMessages s t ms x b .messages) (length-outMessages s t ms x b room) (each-node b)
-
--- one message, along any direction
-pub outMessage-long : (s : Settings) (t : MessageGraph) → Sound t → (ms : List Message) → SetFits (t .directions) ms → (d : ℕ) → d < length (t .directions) → length (outMessage s t ms d) ≡ directionAt t d .messageLength
-outMessage-long s t S ms F d h = fits s t S .single ms (F .long) d h
+  node-sends b =
+      each-sends (outMessages s t ms x b .messages) (length-outMessages s t ms x b room) (each-outMessages (fits s t S .preserved) n b ms tt (F .long))
 
 -- ---- a sweep, node by node
 

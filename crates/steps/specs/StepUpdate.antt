@@ -46,7 +46,7 @@ module _ (s : Settings) (t : MessageGraph) (kinds firsts starts outs offsets lab
   single-rows m x =
       let A = along-of s t kinds firsts starts outs offsets labels evidence P w rIn rNew rLog rBuild pending rest F e d h in
       let Q = words-of s t kinds firsts starts outs offsets labels evidence P .read in
-      let l : length m ≡ directionAt t d .messageLength = ap length x ∙ lengths s t (P .kept .sound) .single ms (λ c k. cut-long (t .directions) rIn c (F .in-long) k) d h in
+      let l : length m ≡ directionAt t d .messageLength = ap length x ∙ lengths s t (P .kept .sound) .preserved .single ms (λ c k. cut-long (t .directions) rIn c (F .in-long) k) d h in
       both-rows firsts starts offsets w p d A m (omega (arith, l, Q .offset-next d h))
       ∙ ap (λ (r : List Float). partFloats (put rIn (getD offsets d 0) r) (put rNew (getD offsets d 0) r) rLog rBuild pending rest) x
 

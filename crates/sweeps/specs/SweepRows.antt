@@ -116,7 +116,8 @@ module _ (s : Settings) (t : MessageGraph) (kinds firsts starts outs offsets lab
     -- what it sends fits the new row
     pub sends-fit : (rIn : List Float) → length rIn ≡ width (t .directions) → (b : LastBuild) → Sends (t .directions) (x .outgoing) (outMessages s t (cut (t .directions) rIn) x b .messages)
     sends-fit rIn e b =
-        node-sends s t (P .kept .sound) (cut (t .directions) rIn) (cut-fits (t .directions) rIn e) n h (inside-row t kinds firsts starts outs offsets read-rows n h) (sends-there t kinds firsts starts outs offsets read-rows n h) b
+        node-sends s t (P .kept .sound) (cut (t .directions) rIn) (cut-fits (t .directions) rIn e) n
+        (inside-row t kinds firsts starts outs offsets read-rows n h) (sends-there t kinds firsts starts outs offsets read-rows n h) b
 
     -- ---- a grade or an input
     module _ (v : IsVariable (nodeAt t n .kind)) where

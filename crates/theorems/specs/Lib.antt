@@ -1,2 +1,4 @@
 pub mod Demand3
 pub mod Facts
+pub mod ExactSums
+pub mod ExactSumsMet

@@ -143,7 +143,7 @@ module _ (s : definition.Settings) (t : MessageGraph) (out : ℕ) (evidence : Li
   o = getD (offsetsRow words 0 out) d 0
 
   m-long : length m ≡ directionAt t d .messageLength
-  m-long = lengths s t (P .rows .kept .sound) .single (cut ds (S .rIn)) (λ c k. cut-long ds (S .rIn) c (S .floats .in-long) k) d way
+  m-long = lengths s t (P .rows .kept .sound) .preserved .single (cut ds (S .rIn)) (λ c k. cut-long ds (S .rIn) c (S .floats .in-long) k) d way
 
   room : o + length m ≤ width ds
   room = omega (arith, m-long, Q .offset-room d way)

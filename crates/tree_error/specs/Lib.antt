@@ -1,0 +1,13 @@
+pub mod Off
+pub mod Weights
+pub mod Terms
+pub mod Shares
+pub mod Numbers
+pub mod Up
+pub mod Layers
+pub mod Down
+pub mod Fraction
+pub mod Tree
+pub mod Sent
+pub mod Patterns
+pub mod Built
