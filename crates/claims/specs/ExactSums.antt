@@ -109,12 +109,13 @@ BuiltNearExact = (s : Settings) (f : Buffers) (b : Bale) (n : ℕ) (p : List Nod
 
 -- ---- what is in force
 
--- m is what the tree where direction d starts sends by it, built of the messages in force after the opening and a beginning of the events es. (A tree that is
--- not built anew sends such an older message again, and a step copies older ones back.)
+-- m is what the tree where direction d starts sends by it, built of the messages in force after the opening and the first of the events es, before the next of
+-- them. (A tree that is not built anew sends such an older message again, and a step copies older ones back.)
 pub record SentBefore (s : Settings) (t : MessageGraph) (es : List Event) (x : State) (d : ℕ) (m : Message) : Type 0 where
   pub done : List Event
+  pub next : Event
   pub left : List Event
-  pub beginning : done ++ left ≡ es
+  pub beginning : done ++ (next ∷ left) ≡ es
   pub built : m ≡ messageAt (directionAt t d .endInStart) (treeOutMessages (messagesIn (nodeAt t (directionAt t d .start)) (stateAfter s t (opened ∷ done) x .store .msgIn)))
 
 -- direction d starts at a tree

@@ -193,14 +193,14 @@ module _ {s : Settings} {t : MessageGraph} {P : Family} {R : List Message → Ty
   stored-applyEvent swept x o r h = stored-sweep (x .store) r h
   stored-applyEvent stepped x o r h = stored-top (highestPriority (x .priorities)) x r h
 
-  -- R is to hold of the messages in force after each beginning of the events.
-  pub stored-after : (es : List Event) (x : State) → All Reopens es → ((us vs : List Event) → us ++ vs ≡ es → R (stateAfter s t us x .store .msgIn))
+  -- R is to hold of the messages in force before each of the events.
+  pub stored-after : (es : List Event) (x : State) → All Reopens es → ((us : List Event) (e : Event) (vs : List Event) → us ++ (e ∷ vs) ≡ es → R (stateAfter s t us x .store .msgIn))
       → Stored P (x .store) → Stored P (stateAfter s t es x .store)
   unfolding stateAfter
   stored-after [] x o r h = h
   stored-after (e ∷ es) x o r h =
-      stored-after es (applyEvent s t e x) (o .1) (λ us vs q. r (e ∷ us) vs (ap (λ (l : List Event). e ∷ l) q))
-      (stored-applyEvent e x (o .0) (r [] (e ∷ es) refl) h)
+      stored-after es (applyEvent s t e x) (o .1) (λ us d vs q. r (e ∷ us) d vs (ap (λ (l : List Event). e ∷ l) q))
+      (stored-applyEvent e x (o .0) (r [] e es refl) h)
 
 module _ {s : Settings} {t : MessageGraph} {P : Family} {R : List Message → Type 0} (H : Invariant s t P R) where
   fit-updateKind : (p : Kind → Bool) (f : MessageNode → List Message → List Message) (xs : List MessageNode) (ms : List Message) → All (SendsHolding P p f) xs
@@ -229,7 +229,8 @@ module _ {s : Settings} {t : MessageGraph} {P : Family} {R : List Message → Ty
   reopens stepped = tt
 
   -- After any list of events that begins with the opening, and from any state, every message in force fits.
-  pub in-force : (es : List Event) (x : State) → ((us vs : List Event) → us ++ vs ≡ es → R (stateAfter s t (opened ∷ us) x .store .msgIn))
+  pub in-force : (es : List Event) (x : State)
+      → ((us : List Event) (e : Event) (vs : List Event) → us ++ (e ∷ vs) ≡ es → R (stateAfter s t (opened ∷ us) x .store .msgIn))
       → Holding P (stateAfter s t (opened ∷ es) x .store .msgIn)
   unfolding stateAfter applyEvent beginLoop
   in-force es x r = stored-after (H .preserved) es (beginLoop s t (opening s t)) (All-every (Reopens (H .preserved)) reopens es) r stored-opening .msgIn

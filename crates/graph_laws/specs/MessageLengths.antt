@@ -226,4 +226,4 @@ module _ (s : Settings) (t : MessageGraph) (S : Sound t) where
 
   -- the message of each direction is as long as the direction says
   pub as-long : (es : List Event) (x : State) (d : ℕ) → d < length (t .directions) → length (messageAt d (stateAfter s t (opened ∷ es) x .store .msgIn)) ≡ directionAt t d .messageLength
-  as-long es x d l = in-force fits es x (λ us vs q. tt) d l
+  as-long es x d l = in-force fits es x (λ us e vs q. tt) d l

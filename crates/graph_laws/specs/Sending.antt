@@ -235,7 +235,7 @@ module _ (Good : Message → Type 0) where
         }
 
     fine-in-force : (es : List Event) (x : State) → Holding (Fine t) (stateAfter s t (opened ∷ es) x .store .msgIn)
-    fine-in-force es x = in-force fine es x (λ us vs q. tt)
+    fine-in-force es x = in-force fine es x (λ us e vs q. tt)
 
     -- After any list of events that begins with the opening, and from any state, every message in force is good.
     pub good-in-force : (es : List Event) (x : State) (d : ℕ) → d < length (t .directions) → Good (messageAt d (stateAfter s t (opened ∷ es) x .store .msgIn))

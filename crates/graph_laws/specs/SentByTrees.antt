@@ -1,4 +1,4 @@
--- A message in force out of a tree is what the opening put there or what the tree sent, built of the messages in force after a beginning of the events. In a run it
+-- A message in force out of a tree is what the opening put there or what the tree sent, built of the messages in force before one of the events. In a run it
 -- is what the tree sent, from the first sweep on: all trees are built then, and a sweep leaves nothing of what stood where it writes.
 use Prim.Native.Nat.{ℕ, zero, suc, _<_}
 use native.Mathlib.Omega.{arith}
@@ -136,33 +136,33 @@ module _ (s : Settings) (g : Subgraph) (t : MessageGraph) (C : Consistent g t) w
     abbrev Out : Family
     Out = SentBefore s t es x
 
-    sent : (us vs : List Event) → us ++ vs ≡ es → Sent Out (after us .msgIn)
-    sent us vs q d f = record { done = us; left = vs; beginning = q; built = refl }
+    sent : (us : List Event) (e : Event) (vs : List Event) → us ++ (e ∷ vs) ≡ es → Sent Out (after us .msgIn)
+    sent us e vs q d f = record { done = us; next = e; left = vs; beginning = q; built = refl }
 
     abbrev OpenedOrSent : Family
     OpenedOrSent d m = (m ≡ initialMessage (directionAt t d)) ⊎ Out d m
 
     opened-or-sent : Holding (P OpenedOrSent) (after es .msgIn)
-    opened-or-sent = in-force (from-opening OpenedOrSent (λ d f. inl refl)) es x (λ us vs q d f. inr (sent us vs q d f))
+    opened-or-sent = in-force (from-opening OpenedOrSent (λ d f. inl refl)) es x (λ us e vs q d f. inr (sent us e vs q d f))
 
     one-sweep : (vs : List Event) → swept ∷ vs ≡ es → Holding (P Out) (after (swept ∷ []) .msgIn)
     unfolding stateAfter applyEvent beginLoop opening
     one-sweep vs q =
-        first-sweep Out (after []) (counted s t [] x .store) (sent [] (swept ∷ vs) q)
+        first-sweep Out (after []) (counted s t [] x .store) (sent [] swept vs q)
         (All-map-into (λ b. b ≡ none) (λ y. none) (t .nodes) (All-every (λ y. none ≡ none) (λ y. refl) (t .nodes)))
 
     two-sweeps : (vs : List Event) → swept ∷ swept ∷ vs ≡ es → Holding (P Out) (after (swept ∷ swept ∷ []) .msgIn)
     unfolding stateAfter applyEvent beginLoop
-    two-sweeps vs q = next-sweep Out (after (swept ∷ [])) (counted s t (swept ∷ []) x .store) (sent (swept ∷ []) (swept ∷ vs) q) (one-sweep (swept ∷ vs) q)
+    two-sweeps vs q = next-sweep Out (after (swept ∷ [])) (counted s t (swept ∷ []) x .store) (sent (swept ∷ []) swept vs q) (one-sweep (swept ∷ vs) q)
 
     three-sweeps : (vs : List Event) → swept ∷ swept ∷ swept ∷ vs ≡ es → All (Reopens (kept Out)) vs
         → Holding (P Out) (after (swept ∷ swept ∷ swept ∷ vs) .msgIn)
     unfolding stateAfter applyEvent beginLoop
     three-sweeps vs q o =
         stored-after (kept Out) vs (stateAfter s t (opened ∷ swept ∷ swept ∷ swept ∷ []) x) o
-        (λ us ws e. sent (swept ∷ swept ∷ swept ∷ us) ws (ap (λ (l : List Event). swept ∷ swept ∷ swept ∷ l) e ∙ q))
-        (stored-sweeps Out (after (swept ∷ [])) (counted s t (swept ∷ []) x .store) (sent (swept ∷ []) (swept ∷ swept ∷ vs) q)
-        (sent (swept ∷ swept ∷ []) (swept ∷ vs) q) (one-sweep (swept ∷ swept ∷ vs) q))
+        (λ us e ws p. sent (swept ∷ swept ∷ swept ∷ us) e ws (ap (λ (l : List Event). swept ∷ swept ∷ swept ∷ l) p ∙ q))
+        (stored-sweeps Out (after (swept ∷ [])) (counted s t (swept ∷ []) x .store) (sent (swept ∷ []) swept (swept ∷ vs) q)
+        (sent (swept ∷ swept ∷ []) swept vs q) (one-sweep (swept ∷ swept ∷ vs) q))
         .msgIn
 
   in-run : (steps k : ℕ) (x : State) → let es = take (suc k) (sweepsAndSteps steps) in
