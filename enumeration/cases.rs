@@ -84,7 +84,7 @@ pub fn tree(random: &mut Random) -> Messages {
     let draw = random.pick(&ENTRIES);
     let mut grades = vec![[draw(random), draw(random)]; n];
     match random.below(6) {
-        // the worst that a search found: the errors of leaves that are all alike add up
+        // the errors of leaves that are all alike add up
         0 => return tree_of(&two_ends(n), &vec![opposed(random); n]),
         1 => {}
         _ => grades.fill_with(|| [draw(random), draw(random)]),

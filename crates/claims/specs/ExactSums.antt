@@ -25,8 +25,7 @@ use Rattle.claims.specs.Patterns.{patterns}
 
 -- ---- whole numbers for floats
 
--- A float's size is the fraction `num` / `den`. In units of 2 ^ -149 it is a whole number, rounded down; `Whole` says that nothing was lost, as of no binary32
--- value there is.
+-- A float's size is the fraction `num` / `den`. In units of 2 ^ -149 it is taken as a whole number, rounded down; `Whole` says that nothing was lost by it.
 abbrev pub units : Float → ℕ
 units x = num x * 2 ^ 149 / den x
 
