@@ -5,7 +5,9 @@
  *
  * The caller owns all memory. Assumed of the caller, and checked by nothing: each pointer is valid for as many entries as the
  * length beside it says (a null pointer only with length 0), is aligned for its type, no two lent buffers overlap each other or
- * the inputs, and `regularised` is 0 or 1. Everything else is checked, and every input is answered. */
+ * the inputs, and `regularised` is 0 or 1. Everything else is checked, and every input is answered.
+ *
+ * Nothing is allocated, nothing is kept between calls, and no function of the library calls itself, directly or through others. */
 #ifndef PIKAPLATINUM_H
 #define PIKAPLATINUM_H
 

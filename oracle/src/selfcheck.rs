@@ -61,6 +61,10 @@ fn floats(tally: &mut Tally) {
     let close = |y: f32| (exp(y) / y.exp() - 1.0).abs() < 2e-5;
     tally.check("exp is near the library's", (0..870).all(|i| close(i as f32 * -0.1)));
     tally.check("3^5 = 243, 0.5^0 = 1", powi(1.0, 3.0, 5) == 243.0 && powi(1.0, 0.5, 0) == 1.0);
+    // multiplied on the way back these would end in 2B and 7E
+    let carried = powi(1.0, 17.0 / 1024.0, 7).to_bits() == 0x2AC3_AA2C;
+    let carried = carried && powi(1.0, 769.0 / 1024.0, 127).to_bits() == 0x2538_A67F;
+    tally.check("a power's product is carried along", carried);
 }
 
 fn tables(tally: &mut Tally) {

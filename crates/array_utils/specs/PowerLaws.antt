@@ -1,4 +1,4 @@
--- The power by that of half the exponent: what a function that calls itself on half the exponent goes by.
+-- The power by that of half the exponent: what a loop over the bits of the exponent goes by.
 use mathlib.Core.Path.{_≡_, refl, sym, ap, _∙_}
 use mathlib.Core.Bool.{cond}
 use native.Mathlib.Omega.{arith}

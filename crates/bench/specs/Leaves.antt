@@ -1,10 +1,9 @@
 -- The leaves that are timed, made total: what lies outside a leaf's domain stays as it is.
-use mathlib.Core.Path.{_≡_, refl}
 use mathlib.Core.Bool.{true, cond}
 use Prim.Native.Nat.{ℕ, zero, suc}
 use lib.IntN.{pos}
 use lib.Ieee.{Float, fin, le}
-use Rattle.definition.specs.Floats.{_⊖_, zeroᶠ, largestFinite, ln, exp}
+use Rattle.definition.specs.Floats.{_⊖_, zeroᶠ, largestFinite, ln, exp, powi}
 use Rattle.definition.specs.Vectors.{entry, logNormalize}
 
 unfoldable pub expLeaf : Float → Float
@@ -22,10 +21,5 @@ logNormalizeLeaf x = cond (le x largestFinite) (cond (le lowest x) (sharesApart 
 unfoldable pub leafOf : ℕ → Float → Float
 leafOf zero x = ln x
 leafOf (suc zero) x = expLeaf x
-leafOf (suc (suc n)) x = logNormalizeLeaf x
-
-pub leaf-other : (n : ℕ) (x : Float) → (n ≡ 0 → ⊥) → (n ≡ 1 → ⊥) → logNormalizeLeaf x ≡ leafOf n x
-unfolding leafOf
-leaf-other zero x h k = absurd (h refl)
-leaf-other (suc zero) x h k = absurd (k refl)
-leaf-other (suc (suc n)) x h k = refl
+leafOf (suc (suc zero)) x = logNormalizeLeaf x
+leafOf (suc (suc (suc n))) x = powi x n

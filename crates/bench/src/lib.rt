@@ -44,10 +44,13 @@ fn leaf(table: &[f32; 1025], which: u32, x: f32) -> f32
     if which == 1 {
         return exp_leaf(x);
     }
-    log_normalize_leaf(table, x)
+    if which == 2 {
+        return log_normalize_leaf(table, x);
+    }
+    array_utils::powi(x, which - 3)
 }
 
-// 0 is ln_from_table, 1 exp, and any other number log_normalize.
+// 0 is ln_from_table, 1 exp, 2 log_normalize, and 3 + n the power n.
 #[no_mangle]
 pub extern "C" fn leaf_all(which: u32, xs: &mut [f32])
     ensures { λ _. ⌜ now (xs .exit) ≡ map (leafOf which) (now (xs .entry)) ⌝ }

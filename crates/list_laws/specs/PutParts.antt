@@ -1,14 +1,15 @@
 -- Ranges put into a list: element by element, in any order, and at the front of a lent range.
 use mathlib.Core.Path.{_≡_, sym, ap, _∙_}
 use mathlib.Core.Logic.{by-cases}
-use mathlib.Core.List.{List, _∷_, _++_, append-assoc}
+use mathlib.Core.List.{List, [], _∷_, _++_, append-assoc}
 use Prim.Native.Nat.{ℕ, suc, _+_, _-_, _≤_, _<_}
 use native.Mathlib.Decide.{decLt}
 use native.Mathlib.Omega.{arith}
 use lib.ListN.{length, getD, take, drop, set}
 use lib.Seq.{take-suc-set, drop-set-lt, ext-getD}
 use Rattle.list_laws.specs.Part.{region, getD-region, length-region}
-use Rattle.list_laws.specs.Put.{put, put-is, put-in, put-below, put-above, length-put, put-part, put-inner, put-region}
+use Rattle.list_laws.specs.Put.{put, put-is, put-in, put-below, put-above, length-put, put-part, put-inner, put-region, put-next}
+use Rattle.list_laws.specs.PutMore.{put-one}
 
 module _ {A : Type 0} where
   -- the first of a range is stored, and then the rest of it is put
@@ -39,6 +40,13 @@ module _ {A : Type 0} where
       ∙ sym (put-in l b t d (j - b) (omega arith) (omega arith))
       ∙ ap (λ (i : ℕ). getD (put l b t) i d) e)
       (λ w. put-above (put l a s) b t d j (omega arith) (omega arith) ∙ put-above l a s d j (omega arith) q ∙ sym (put-above l b t d j (omega arith) (omega arith)))))
+
+  -- the last of a range is stored, and then the rest of it is put
+  pub put-last : (d : A) (l : List A) (at : ℕ) (s : List A) (v : A) → at + length s < length l → put (set l (at + length s) v) at s ≡ put l at (s ++ v ∷ [])
+  put-last d l at s v h =
+      ap (λ (z : List A). put z at s) (put-one d l (at + length s) v h)
+      ∙ sym (put-comm d l at (at + length s) s (v ∷ []) (omega arith) (omega arith))
+      ∙ put-next d l at s (v ∷ []) (omega arith)
 
   -- a range above what is put
   pub region-above : (d : A) (l : List A) (a : ℕ) (s : List A) (b m : ℕ) → a + length s ≤ b → b + m ≤ length l → region (put l a s) b m ≡ region l b m

@@ -1,18 +1,43 @@
--- The digits of a number, as the definition has them: the last one after those of the rest.
+-- The digits of a number, the last one after those of the rest: as the definition has them, and as a loop puts them that begins with the last.
 use mathlib.Core.Path.{_≡_, refl, sym, ap, _∙_, subst}
 use mathlib.Core.Bool.{Bool, true, false, not}
-use mathlib.Core.List.{List, [], _∷_, _++_, append-assoc}
+use mathlib.Core.List.{List, [], _∷_, _++_, append-assoc, append-nil}
+use mathlib.Core.Logic.{by-cases}
 use Prim.Native.Nat.{ℕ, zero, suc, _+_, _-_, _/_, _%_, _≤_, _<_}
+use native.Mathlib.Decide.{decLt}
 use native.Mathlib.Omega.{arith}
 use lib.Dec.{T, ltb, nltb→le}
 use borrow.Author.Tests.{lt-ltb, le-ltb}
 use lib.ListN.{length, set, length-append}
 use lib.Ieee.{Float, binary32, toBits}
-use Rattle.list_laws.specs.Put.{put, put-none}
-use Rattle.list_laws.specs.PutMore.{set-put}
-use Rattle.list_laws.specs.PutParts.{put-cons}
+use Rattle.list_laws.specs.Put.{put}
+use Rattle.list_laws.specs.PutParts.{put-last}
 use Rattle.definition.specs.Listing.{decimalBefore, decimal, hexDigit, hexBefore, hex}
-use Rattle.listing.specs.Writing.{Written, Fields, field-fits}
+use Rattle.listing.specs.Writing.{Fields, field-fits}
+
+-- ---- the last digits to a base
+
+-- the last d digits of n to a base of at most 16
+unfoldable pub digits : ℕ → ℕ → ℕ → List ℕ
+digits base zero n = []
+digits base (suc d) n = digits base d (n / base) ++ hexDigit (n % base) ∷ []
+
+pub digits-length : (base d n : ℕ) → length (digits base d n) ≡ d
+unfolding digits
+digits-length base zero n = refl
+digits-length base (suc d) n = omega (arith, length-append (digits base d (n / base)) (hexDigit (n % base) ∷ []), digits-length base d (n / base))
+
+-- the last digit is stored, and the others are put before it
+pub digits-next :
+    (base d n : ℕ) (l : List ℕ) (at : ℕ) → 0 < d → at + d ≤ length l →
+    put (set l (at + (d - 1)) (hexDigit (n % base))) at (digits base (d - 1) (n / base)) ≡ put l at (digits base d n)
+unfolding digits
+digits-next base zero n l at h k = absurd (let z : ⊥ = omega arith in z)
+digits-next base (suc d) n l at h k =
+    let s = digits base d (n / base) in
+    let v = hexDigit (n % base) in
+    let e : suc d - 1 ≡ d = omega arith in
+    rw e (ap (λ (i : ℕ). put (set l (at + i) v) at s) (sym (digits-length base d (n / base))) ∙ put-last 0 l at s v (omega (arith, digits-length base d (n / base))))
 
 -- ---- decimal digits
 
@@ -71,51 +96,41 @@ decimal-next n h =
 pub decimal-longer : (n : ℕ) → 10 ≤ n → length (decimal n) ≡ length (decimal (n / 10)) + 1
 decimal-longer n h = ap length (decimal-next n h) ∙ length-append (decimal (n / 10)) ((48 + n % 10) ∷ [])
 
+low-digit : (n : ℕ) → n < 10 → hexDigit n ≡ 48 + n
+unfolding hexDigit
+low-digit n h = simp (lt-ltb n 10 h)
+
+decimal-within : (b n : ℕ) → n < b → decimal n ≡ digits 10 (length (decimal n)) n
+unfolding digits
+decimal-within zero n h = absurd (let z : ⊥ = omega arith in z)
+decimal-within (suc b) n h =
+    by-cases (decLt n 10)
+    (λ (k : n < 10).
+    let e = decimal-digit n k in
+    let r : n % 10 ≡ n = omega arith in
+    rw e (rw (r, low-digit n k)))
+    (λ k.
+    let e = decimal-next n (omega arith) in
+    let i = decimal-within b (n / 10) (omega arith) in
+    let z : length (decimal n) ≡ suc (length (decimal (n / 10))) = omega (arith, decimal-longer n (omega arith)) in
+    rw z (e ∙ (rw (low-digit (n % 10) (omega arith), ← i))))
+
+pub decimal-digits : (n : ℕ) → decimal n ≡ digits 10 (length (decimal n)) n
+decimal-digits n = decimal-within (suc n) n (omega arith)
+
 -- ---- hexadecimal digits
 
--- While the digits of n are put into l from place at on, the last first: m is l with `digits` from place at + count on, and the digits of rest are wanted before them.
-pub record HexLeft (l : List ℕ) (at n : ℕ) (m : List ℕ) (count rest : ℕ) : Type 0 where
-  pub digits : List ℕ
-  pub eight : count + length digits ≡ 8
-  pub bytes : m ≡ put l (at + count) digits
-  pub all : hexBefore count rest digits ≡ hexBefore 8 n []
+before-digits : (d n : ℕ) (l : List ℕ) → hexBefore d n l ≡ digits 16 d n ++ l
+unfolding hexBefore digits
+before-digits zero n l = refl
+before-digits (suc d) n l = before-digits d (n / 16) (hexDigit (n % 16) ∷ l) ∙ sym (append-assoc (digits 16 d (n / 16)) (hexDigit (n % 16) ∷ []) l)
 
-pub hex-none : (l : List ℕ) (at n : ℕ) → at + 8 ≤ length l → HexLeft l at n l 8 n
-hex-none l at n h = record { digits = []; eight = refl; bytes = put-none l (at + 8) h; all = refl }
-
-hex-before : (d n : ℕ) (l : List ℕ) → 0 < d → hexBefore d n l ≡ hexBefore (d - 1) (n / 16) (hexDigit (n % 16) ∷ l)
-unfolding hexBefore
-hex-before zero n l h = absurd (let z : ⊥ = omega arith in z)
-hex-before (suc d) n l h = let e : suc d - 1 ≡ d = omega arith in rw e
-
-pub hex-next :
-    {l : List ℕ} {at n : ℕ} {m : List ℕ} {count rest : ℕ} →
-    HexLeft l at n m count rest → at + 8 ≤ length l → 0 < count →
-    HexLeft l at n (set m (at + (count - 1)) (hexDigit (rest % 16))) (count - 1) (rest / 16)
-hex-next {l} {at} {n} {m} {count} {rest} a h k =
-    let i = at + (count - 1) in
-    let d = hexDigit (rest % 16) in
-    let e : at + count ≡ i + 1 = omega arith in
-    record {
-      digits = d ∷ a .digits;
-      eight = omega (arith, a .eight);
-      bytes = ap (λ (z : List ℕ). set z i d) (a .bytes) ∙ set-put 0 l (at + count) (a .digits) i d (omega (arith, a .eight)) (omega arith) ∙ ap (λ (z : ℕ). put (set l i d) z (a .digits)) e ∙ put-cons l i d (a .digits) (omega arith);
-      all = sym (hex-before count rest (a .digits) k) ∙ a .all;
-    }
-
-before-length : (d n : ℕ) (l : List ℕ) → length (hexBefore d n l) ≡ d + length l
-unfolding hexBefore
-before-length zero n l = let z : length l ≡ 0 + length l = omega arith in z
-before-length (suc d) n l = before-length d (n / 16) (hexDigit (n % 16) ∷ l) ∙ (let z : d + suc (length l) ≡ suc d + length l = omega arith in z)
+pub hex-digits : (x : Float) → hex x ≡ digits 16 8 (toBits binary32 x)
+unfolding hex
+hex-digits x = before-digits 8 (toBits binary32 x) [] ∙ append-nil (digits 16 8 (toBits binary32 x))
 
 pub hex-length : (x : Float) → length (hex x) ≡ 8
-unfolding hex
-hex-length x = before-length 8 (toBits binary32 x) []
-
-pub hex-all : {l : List ℕ} {at : ℕ} {m : List ℕ} {rest : ℕ} (x : Float) → HexLeft l at (toBits binary32 x) m 0 rest → Written l at (hex x) m (at + 8)
-unfolding hex hexBefore
-hex-all {l} {at} {m} {rest} x a =
-    record { bytes = a .bytes ∙ (let e : at + 0 ≡ at = omega arith in ap (λ (z : ℕ). put l z (a .digits)) e) ∙ ap (put l at) (a .all); place = ap (λ (z : ℕ). at + z) (sym (hex-length x)) }
+hex-length x = ap length (hex-digits x) ∙ digits-length 16 8 (toBits binary32 x)
 
 -- room for a float and the byte that ends it
 pub float-fits : {l : List ℕ} {at : ℕ} {s m : List ℕ} {k : ℕ} {fs : List (List ℕ)} (x : Float) → Fields l at s m k (hex x ∷ fs) → k + 8 < length m

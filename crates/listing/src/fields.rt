@@ -8,6 +8,7 @@ ghost use lib.Ieee.{isNan};
 ghost use lib.ListN.{length};
 ghost use Rattle.definition.specs.Listing.{decimal, hex, hexDigit};
 ghost use Rattle.listing.specs.Writing.{Written, field};
+ghost use Rattle.listing.specs.Digits.{digits};
 
 fn put_byte(out: &mut [u8], at: usize, byte: u8) -> usize
     requires { ⌜ at < length (now out) ⌝ }
@@ -17,39 +18,57 @@ fn put_byte(out: &mut [u8], at: usize, byte: u8) -> usize
     at + 1
 }
 
-// The digits of n, the last one after those of a tenth of it.
-fn put_decimal(out: &mut [u8], at: usize, n: u64) -> usize
-    requires { ⌜ at + length (decimal n) ≤ length (now out) ⌝ }
-    ensures { λ r. ⌜ Written (now (out .entry)) at (decimal n) (now (out .exit)) r ⌝ }
-{
-    if n < 10 {
-        return put_byte(out, at, 48 + n as u8);
-    }
-    let last = put_decimal(out, at, n / 10);
-    put_byte(out, last, 48 + (n % 10) as u8)
-}
-
-fn hex_digit(n: u32) -> u8
+fn hex_digit(n: u64) -> u8
     requires { ⌜ n < 16 ⌝ }
     ensures { λ r. ⌜ r ≡ hexDigit n ⌝ }
 {
     if n < 10 { 48 + n as u8 } else { 55 + n as u8 }
 }
 
-// The eight digits of the bits of x, the last one first.
+// The last digits of n to the base, so many of them, the last one first.
+fn put_digits(out: &mut [u8], at: usize, count: usize, n: u64, base: u64) -> usize
+    requires { ⌜ (0 < base) × (base ≤ 16) ⌝ }
+    requires { ⌜ at + count ≤ length (now out) ⌝ }
+    ensures { λ r. ⌜ Written (now (out .entry)) at (digits base count n) (now (out .exit)) r ⌝ }
+{
+    let mut rest = n;
+    let mut left = count;
+    while 0 < left {
+        left -= 1;
+        out[at + left] = hex_digit(rest % base);
+        rest /= base;
+    }
+    at + count
+}
+
+// How many digits n has.
+fn decimal_len(n: u64) -> usize
+    ensures { λ r. ⌜ r ≡ length (decimal n) ⌝ }
+{
+    let mut count: usize = 1;
+    let mut rest = n;
+    while 9 < rest {
+        count += 1;
+        rest /= 10;
+    }
+    count
+}
+
+fn put_decimal(out: &mut [u8], at: usize, n: u64) -> usize
+    requires { ⌜ at + length (decimal n) ≤ length (now out) ⌝ }
+    ensures { λ r. ⌜ Written (now (out .entry)) at (decimal n) (now (out .exit)) r ⌝ }
+{
+    let count = decimal_len(n);
+    put_digits(out, at, count, n, 10)
+}
+
+// The eight digits of the bits of x.
 fn put_hex(out: &mut [u8], at: usize, x: f32) -> usize
     requires { ⌜ T (not (isNan x)) ⌝ }
     requires { ⌜ at + 8 ≤ length (now out) ⌝ }
     ensures { λ r. ⌜ Written (now (out .entry)) at (hex x) (now (out .exit)) r ⌝ }
 {
-    let mut rest = f32::to_bits(x);
-    let mut count: usize = 8;
-    while 0 < count {
-        count -= 1;
-        out[at + count] = hex_digit(rest % 16);
-        rest /= 16;
-    }
-    at + 8
+    put_digits(out, at, 8, f32::to_bits(x) as u64, 16)
 }
 
 pub(crate) fn put_word(out: &mut [u8], at: usize, text: &[u8], after: u8) -> usize

@@ -1,9 +1,10 @@
 -- `bench::leaf` meets its contract.
 use mathlib.Core.Path.{_≡_, sym, ap, _∙_}
-use Prim.Native.Nat.{ℕ}
+use Prim.Native.Nat.{ℕ, suc, _-_}
+use native.Mathlib.Omega.{arith}
 use borrow.Author.Needs.{needs}
 use lib.Ieee.{Float}
-use Rattle.bench.specs.Leaves.{leafOf, leaf-other}
+use Rattle.bench.specs.Leaves.{leafOf}
 use Rattle.bench.proofs.leaf.Statement.{statement}
 use Rattle.bench.proofs.leaf.Tie as tie
 
@@ -29,9 +30,24 @@ log-normalize-leaf-requires : tie.Need-log-normalize-leaf-requires
 log-normalize-leaf-requires c κs = search needs
 
 returns-3 : tie.Need-returns-3
-returns-3 c =
-    let a = c .before .before .before .args in
-    c .log-normalize-leaf .ensures ∙ leaf-other (a .which) (a .x) (c .before .before .if1 .left) (c .before .if2 .left)
+unfolding leafOf
+returns-3 c = let a = c .before .before .before .before .args in at (a .which) 2 (a .x) (c .log-normalize-leaf .result) (c .before .if3 .taken) (c .log-normalize-leaf .ensures)
+
+sub-powi : tie.Need-sub-powi
+sub-powi c = omega arith
+
+powi-requires : tie.Need-powi-requires
+powi-requires c κs = search needs
+
+returns-4 : tie.Need-returns-4
+unfolding leafOf
+returns-4 c =
+    let a = c .before .before .before .before .args in
+    let m = suc (suc (suc (a .which - 3))) in
+    let e : a .which ≡ m = omega arith in
+    at (a .which) m (a .x) (c .powi .result) e (c .powi .ensures)
 
 pub leaf-spec : {M : Type 1} → statement M
-leaf-spec = tie.close (tie.spec ln-from-table-requires returns exp-leaf-requires returns-2 log-normalize-leaf-requires returns-3)
+leaf-spec =
+    tie.close
+    (tie.spec ln-from-table-requires returns exp-leaf-requires returns-2 log-normalize-leaf-requires returns-3 sub-powi powi-requires returns-4)
