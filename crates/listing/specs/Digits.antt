@@ -17,7 +17,7 @@ use Rattle.listing.specs.Writing.{Fields, field-fits}
 
 -- ---- the last digits to a base
 
--- the last d digits of n to a base of at most 16
+-- the last d digits of n to a base, which is at most 16
 unfoldable pub digits : ℕ → ℕ → ℕ → List ℕ
 digits base zero n = []
 digits base (suc d) n = digits base d (n / base) ++ hexDigit (n % base) ∷ []
@@ -96,6 +96,7 @@ decimal-next n h =
 pub decimal-longer : (n : ℕ) → 10 ≤ n → length (decimal n) ≡ length (decimal (n / 10)) + 1
 decimal-longer n h = ap length (decimal-next n h) ∙ length-append (decimal (n / 10)) ((48 + n % 10) ∷ [])
 
+-- a digit below ten is the same in both
 low-digit : (n : ℕ) → n < 10 → hexDigit n ≡ 48 + n
 unfolding hexDigit
 low-digit n h = simp (lt-ltb n 10 h)
@@ -105,15 +106,10 @@ unfolding digits
 decimal-within zero n h = absurd (let z : ⊥ = omega arith in z)
 decimal-within (suc b) n h =
     by-cases (decLt n 10)
-    (λ (k : n < 10).
-    let e = decimal-digit n k in
-    let r : n % 10 ≡ n = omega arith in
-    rw e (rw (r, low-digit n k)))
+    (λ (k : n < 10). let r : n % 10 ≡ n = omega arith in rw (decimal-digit n k, r, low-digit n k))
     (λ k.
-    let e = decimal-next n (omega arith) in
-    let i = decimal-within b (n / 10) (omega arith) in
-    let z : length (decimal n) ≡ suc (length (decimal (n / 10))) = omega (arith, decimal-longer n (omega arith)) in
-    rw z (e ∙ (rw (low-digit (n % 10) (omega arith), ← i))))
+    let longer : length (decimal n) ≡ suc (length (decimal (n / 10))) = omega (arith, decimal-longer n (omega arith)) in
+    rw (longer, decimal-next n (omega arith), low-digit (n % 10) (omega arith), ← (decimal-within b (n / 10) (omega arith))))
 
 pub decimal-digits : (n : ℕ) → decimal n ≡ digits 10 (length (decimal n)) n
 decimal-digits n = decimal-within (suc n) n (omega arith)

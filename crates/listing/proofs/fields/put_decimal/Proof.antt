@@ -1,6 +1,5 @@
 -- `listing::fields::put_decimal` meets its contract.
 use mathlib.Core.Path.{sym}
-use native.Mathlib.Omega.{arith}
 use borrow.Author.Needs.{needs}
 use Rattle.listing.specs.Writing.{written-is}
 use Rattle.listing.specs.Digits.{decimal-digits}
