@@ -63,7 +63,7 @@ fn differing(a: &[f32], b: &[f32]) -> usize {
         .count()
 }
 
-// Each exponent that a table can have with each base that a setting gives, and exponents of every width with bases of any bits but NaN's.
+// Each exponent that a table can have with each base that a setting gives, and exponents of up to 31 bits with bases of any bits but NaN's.
 fn compare_powers(random: &mut Random, proved: impl Fn(u32, &mut [f32])) -> bool {
     let settings: Vec<f32> = (1..1024).map(|k| k as f32 / 1024.0).collect();
     let any: Vec<f32> = (0..1024)
