@@ -98,10 +98,10 @@ fn room(grades: usize, markers: usize, pairs: usize) -> Room {
     Room { grades, markers, pairs, grades_of_a_marker: 64 }
 }
 
-/// 128 markers, each on 64 of 1,024 grades.
-fn crowded() -> Graph {
-    let pairs = (0..128).flat_map(|m| (0..64).map(move |i| ((m * 61 + i * 17) % 1024, m))).collect();
-    Graph { grades: 1024, markers: 128, pairs }
+/// So many markers, each on so many of 1,024 grades.
+fn crowded(markers: usize, width: usize) -> Graph {
+    let pairs = (0..markers).flat_map(|m| (0..width).map(move |i| ((m * 61 + i * 17) % 1024, m))).collect();
+    Graph { grades: 1024, markers, pairs }
 }
 
 fn main() {
@@ -113,8 +113,9 @@ fn main() {
     take("the same, tolerance 0", &random(8192), 0.0);
     take("8 grades on each of 1,024 markers", &complete(8, 1024), 0.006);
     take("1 grade on 1,024 markers", &complete(1, 1024), 0.006);
-    take("1,024 grades, 128 markers of 64 grades", &crowded(), 0.006);
+    take("1,024 grades, 128 markers of 64 grades", &crowded(128, 64), 0.006);
     take("64 grades on each of 128 markers, tolerance 0", &complete(64, 128), 0.0);
+    take("1,024 grades, 64 markers of 128 grades", &crowded(64, 128), 0.006);
     take("a chain of 1,024 grades and 1,024 markers", &chain(2048), 0.006);
     take("a cycle of 1,024 grades and 1,024 markers", &cycle(1024), 0.006);
     println!("\npeak stack of the call: {} KiB", peak_stack(&call_of(&random(8192), 0.006)).div_ceil(1024));

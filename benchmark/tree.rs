@@ -1,4 +1,4 @@
-// Compares the convolution tree with the Rust's own, message for message and bit for bit, on random trees of 2 to 64 leaves, and times both
+// Compares the convolution tree with the Rust's own, message for message and bit for bit, on random trees of 2 to 128 leaves, and times both
 // in one process, on the same inputs. Run by benchmark/tree.
 use oracle::random::Random;
 use oracle::tree;
@@ -105,12 +105,13 @@ fn main() {
     let mut random = Random::new(0x9e37_79b9_7f4a_7c15);
     let differ = (0..TREES)
         .filter(|tree| {
-            let n = random.within(2, 64);
+            let n = random.within(2, 128);
             let messages = messages(&mut random, n, tree % 2 == 0);
             !agree(&messages, n)
         })
         .count();
     println!("{differ} of {TREES} trees differ");
+    time(&mut random, 128);
     time(&mut random, 64);
     time(&mut random, 8);
     if differ > 0 {

@@ -10,16 +10,17 @@ mod totals;
 use compare::agrees_with;
 use oracle::alone::{entered_alone, parts_of};
 use oracle::call::{Call, Outcome, call, call_with_bounds};
-use oracle::generate::{accepted_call, any_call, limits_call};
+use oracle::generate::{accepted_call, any_call, limits_call, wide_call};
 use oracle::random::Random;
 use std::time::{Duration, Instant};
 use totals::Totals;
 
-/// One call compared. With bounds the Rust runs slower, so that they are taken of one call in sixteen.
+/// One call compared, and its messages in force if asked: with their bounds the Rust runs slower, so that they are taken of one call in sixteen.
 fn compared(request: &Call, with_bounds: bool, totals: &mut Totals) -> bool {
     let (outcome, bounds) = if with_bounds { call_with_bounds(request) } else { (call(request), None) };
+    let inside = bounds.as_ref().is_none_or(|bounds| bounds.outside == 0);
     totals.take(request, &outcome, bounds);
-    agrees_with(request, &outcome)
+    inside && agrees_with(request, &outcome)
 }
 
 fn agrees(request: &Call) -> bool {
@@ -40,6 +41,7 @@ fn draw(kind: &str, random: &mut Random) -> Call {
         "limits" => limits_call(random),
         "hostile" => hostile::hostile_call(random),
         "accepted" => accepted_call(random),
+        "wide" => wide_call(random),
         _ => any_call(random),
     }
 }
@@ -77,10 +79,11 @@ fn random_calls(kind: &str, seed: u64, count: u64, seconds: Option<u64>) -> bool
     failing.is_none()
 }
 
-fn small_graphs() -> bool {
+/// Listed calls, all with the bounds of their messages.
+fn listed_calls(what: &str, mut calls: impl Iterator<Item = Call>) -> bool {
     let mut totals = Totals::new();
-    let failing = small::calls().find(|request| !compared(request, true, &mut totals));
-    println!("all graphs of up to 3 grades and 3 markers\n{totals}");
+    let failing = calls.find(|request| !compared(request, true, &mut totals));
+    println!("{what}\n{totals}");
     failing.iter().for_each(report);
     failing.is_none()
 }
@@ -114,12 +117,15 @@ fn main() {
     let words: Vec<String> = std::env::args().skip(1).collect();
     let (seed, count) = (number(words.get(1), 0), number(words.get(2), 100_000));
     let same = match words.first().map(String::as_str) {
-        Some("small") => small_graphs(),
+        Some("small") => listed_calls("all graphs of up to 3 grades and 3 markers", small::calls()),
+        Some("wide") => {
+            listed_calls("markers of 64 to 129 grades", oracle::wide::calls().into_iter()) && random_calls("wide", seed, count, None)
+        }
         Some("alone") => alone(seed, count),
         Some("seconds") => random_calls("any", seed, u64::MAX, Some(number(words.get(2), 60))),
         Some(kind @ ("any" | "accepted" | "hostile" | "limits")) => random_calls(kind, seed, count, None),
         _ => {
-            eprintln!("differential small | alone SEED COUNT | any|accepted|hostile|limits SEED COUNT | seconds SEED SECONDS");
+            eprintln!("differential small | alone SEED COUNT | any|accepted|wide|hostile|limits SEED COUNT | seconds SEED SECONDS");
             std::process::exit(2);
         }
     };

@@ -24,14 +24,14 @@ fn kind_of_graph(call: &Call) -> &'static str {
     pairs.iter().for_each(|p| grades_of[p[1] as usize] += 1);
     let parts = oracle::alone::parts_of(call).len();
     let nodes = call.grades as usize + call.marker_count();
-    if pairs.is_empty() {
-        "no pair"
-    } else if grades_of.iter().all(|&count| count < 2) {
-        "stars, no tree"
-    } else if pairs.len() + parts == nodes {
-        "no cycle, with trees"
-    } else {
-        "cycles, with trees"
+    let cycles = pairs.len() + parts > nodes;
+    match (grades_of.into_iter().max().unwrap_or(0), cycles) {
+        (0, _) => "no pair",
+        (1, _) => "stars, no tree",
+        (2..=64, false) => "no cycle, with trees",
+        (2..=64, true) => "cycles, with trees",
+        (_, false) => "no cycle, a tree of over 64 leaves",
+        (_, true) => "cycles, a tree of over 64 leaves",
     }
 }
 

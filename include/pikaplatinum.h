@@ -29,7 +29,7 @@ enum pikaplatinum_refusal {
     PIKAPLATINUM_EVIDENCE = 5,       /* an evidence float outside 2^-14 to 1, or NaN; place the marker */
     PIKAPLATINUM_UNKNOWN = 6,        /* a pair with an unknown grade or marker; place the pair */
     PIKAPLATINUM_REPEATED = 7,       /* a pair given before; place the later pair */
-    PIKAPLATINUM_CROWDED = 8         /* a marker with over 64 grades; place the marker */
+    PIKAPLATINUM_CROWDED = 8         /* a marker with over 128 grades; place the marker */
 };
 
 /* How a part's run ended. */

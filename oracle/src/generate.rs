@@ -4,9 +4,9 @@ use crate::call::{Call, Lent, Settings};
 use crate::faults;
 use crate::limits::*;
 use crate::random::Random;
-use crate::shapes::{any_graph, chain, complete, cycle, random_pairs, Graph, Room};
+use crate::shapes::{any_graph, chain, complete, cycle, random_pairs, wide, Graph, Room};
 
-const SMALL: Room = Room { grades: 70, markers: 40, pairs: 220, grades_of_a_marker: MOST_GRADES_OF_A_MARKER };
+const SMALL: Room = Room { grades: 134, markers: 40, pairs: 280, grades_of_a_marker: MOST_GRADES_OF_A_MARKER };
 
 fn setting(random: &mut Random) -> f32 {
     match random.below(6) {
@@ -110,8 +110,18 @@ fn call_of(random: &mut Random, graph: &Graph) -> Call {
 }
 
 pub fn accepted_call(random: &mut Random) -> Call {
-    let graph = any_graph(random, SMALL);
+    let graph = if random.once_in(12) { wide(random, SMALL) } else { any_graph(random, SMALL) };
     call_of(random, &graph)
+}
+
+/// With a marker on over 64 grades; now and then on one too many.
+pub fn wide_call(random: &mut Random) -> Call {
+    let graph = wide(random, SMALL);
+    let mut call = call_of(random, &graph);
+    if random.once_in(16) {
+        faults::put_in(random, &mut call, 8);
+    }
+    call
 }
 
 /// Accepted, or with one to three faults, so that their order shows.

@@ -20,6 +20,7 @@ pub mod shapes;
 pub mod standins;
 pub mod text;
 pub mod tree;
+pub mod wide;
 
 // The patched sources of the checkout; not all of them is called here.
 #[allow(unused)]

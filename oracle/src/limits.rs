@@ -1,12 +1,12 @@
 //! The limits of document 01.
 
-/// The Rust's own longest vector for a direct convolution.
-pub const DIRECT_CONVOLUTION_MAX_LEN: usize = 64;
+/// The longest vector for a direct convolution, as S-18 has it; the Rust's own is 64.
+pub const DIRECT_CONVOLUTION_MAX_LEN: usize = 256;
 
 pub const MOST_GRADES: usize = 1024;
 pub const MOST_MARKERS: usize = 1024;
 pub const MOST_PAIRS: usize = 8192;
-pub const MOST_GRADES_OF_A_MARKER: usize = 64;
+pub const MOST_GRADES_OF_A_MARKER: usize = 128;
 pub const MOST_LOOPS: u32 = 1_000_000;
 
 /// The program that reads a bale file takes fewer.

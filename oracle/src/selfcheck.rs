@@ -8,7 +8,7 @@ use crate::log_table;
 use crate::pieces::{ln, noisy_or};
 use crate::queue::{OrderedFloat, PriorityQueue};
 use crate::random::Random;
-use crate::selfcheck_calls::{edges_of_range, graphs, order_of_refusals, refusals};
+use crate::selfcheck_calls::{edges_of_range, graphs, order_of_refusals, refusals, wide_marks};
 use crate::standins::{exp, powi};
 use crate::text::{read_call, write_call, write_outcome};
 use crate::tree::tree_messages;
@@ -37,6 +37,7 @@ pub fn run() -> bool {
     edges_of_range(&mut tally);
     refusals(&mut tally);
     order_of_refusals(&mut tally);
+    wide_marks(&mut tally);
     files(&mut tally);
     generated(&mut tally);
     println!("{} passed, {} failed", tally.passed, tally.failed);

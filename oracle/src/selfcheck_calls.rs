@@ -1,8 +1,9 @@
 //! Checks of the call: document 01's bales and every refusal.
 
-use crate::call::{call, parts, Call, Lent, Outcome, Settings};
+use crate::call::{call, parts, Call, Ending, Lent, Outcome, PartEnding, Settings};
 use crate::limits::*;
 use crate::selfcheck::Tally;
+use crate::wide::{crowded, shared_by};
 
 /// A call with half for every setting and [0.5, 0.5] for every marker.
 fn plain(grades: u32, markers: usize, pairs: &[u32]) -> Call {
@@ -65,8 +66,8 @@ pub(crate) fn edges_of_range(tally: &mut Tally) {
     let alpha = |alpha: f32| changed(star(2), |call| call.settings.alpha = alpha);
     tally.check("alpha 1/1024 is accepted", answers(&alpha(1.0 / 1024.0), 2, 1));
     tally.check("alpha 1/2048 is refused", refused_as(&alpha(1.0 / 2048.0), 3, 0));
-    tally.check("64 grades on a marker are accepted", answers(&star(64), 64, 1));
-    tally.check("65 grades on a marker are refused", refused_as(&star(65), 8, 0));
+    tally.check("128 grades on a marker are accepted", answers(&star(128), 128, 1));
+    tally.check("129 grades on a marker are refused", refused_as(&star(129), 8, 0));
     let zero = changed(star(2), |call| call.settings.tolerance = -0.0);
     tally.check("a tolerance of -0 is accepted", answers(&zero, 2, 1));
     let odd = changed(star(2), |call| call.evidence.push(f32::NAN));
@@ -105,7 +106,7 @@ pub(crate) fn refusals(tally: &mut Tally) {
 
 /// From a call with every fault the first is taken away, one after the other.
 pub(crate) fn order_of_refusals(tally: &mut Tally) {
-    let mut faulty = star(65);
+    let mut faulty = star(129);
     faulty.pairs.extend([3, 0, 9999, 0]);
     faulty.evidence[0] = 2.0;
     faulty.settings.tolerance = -1.0;
@@ -117,15 +118,47 @@ pub(crate) fn order_of_refusals(tally: &mut Tally) {
         tally.check(&format!("of several faults {number} at {place}"), refused_as(&faulty, number, place));
         mend(&mut faulty);
     };
-    check(1, 0, |call| call.grades = 65);
-    check(2, 0, |call| call.lent = Lent::needed(65, 1, 67));
+    check(1, 0, |call| call.grades = 129);
+    check(2, 0, |call| call.lent = Lent::needed(129, 1, 131));
     check(3, 0, |call| call.settings.alpha = 0.5);
     check(3, 2, |call| call.settings.prior = 0.5);
     check(4, 0, |call| call.settings.tolerance = 0.0);
     check(4, 1, |call| call.settings.loop_limit = 7);
     check(5, 0, |call| call.evidence[0] = 1.0);
-    check(6, 66, |call| call.pairs.truncate(132));
-    check(7, 65, |call| call.pairs.truncate(130));
-    check(8, 0, |call| call.pairs.truncate(128));
-    tally.check("with every fault mended it is answered", answers(&faulty, 64, 1));
+    check(6, 130, |call| call.pairs.truncate(260));
+    check(7, 129, |call| call.pairs.truncate(258));
+    check(8, 0, |call| call.pairs.truncate(256));
+    tally.check("with every fault mended it is answered", answers(&faulty, 128, 1));
+}
+
+/// Of a mark on so many grades, regularised or not: the first belief's bits, the last one's, and the sum of all bits modulo 2^32.
+const SHARED: [(usize, bool, [u32; 2], [u32; 2], u32); 5] = [
+    (64, false, [0x3F6DC1D7, 0x3D91F15C], [0x3F66AFD2, 0x3DCA8180], 0x4128A133),
+    (65, false, [0x3F6DCDA9, 0x3D9192C9], [0x3F618BD3, 0x3DF3A18A], 0xBE685E33),
+    (128, false, [0x3F6EDCDC, 0x3D891930], [0x3F6A9578, 0x3DAB5456], 0x7F1E0854),
+    (65, true, [0x3F6E5B7E, 0x3D8D2416], [0x3F61ACD2, 0x3DF2998F], 0xBD7A333F),
+    (128, true, [0x3F6FED82, 0x3D809402], [0x3F6BA51B, 0x3DA2D73D], 0x7B68C415),
+];
+
+/// The bits of each belief, in order, if the call has one part that ends empty after no step.
+fn belief_bits(request: &Call) -> Option<Vec<[u32; 2]>> {
+    match call(request) {
+        Outcome::Answered { beliefs, endings } => {
+            let empty = matches!(endings[..], [PartEnding { ending: Ending::Empty, steps: 0, .. }]);
+            empty.then(|| beliefs.iter().map(|belief| [belief.absent.to_bits(), belief.present.to_bits()]).collect())
+        }
+        Outcome::Refused(_) => None,
+    }
+}
+
+pub(crate) fn wide_marks(tally: &mut Tally) {
+    for (grades, regularised, first, last, sum) in SHARED {
+        let bits = belief_bits(&shared_by(grades, regularised)).unwrap_or_default();
+        let summed = bits.as_flattened().iter().fold(0u32, |sum, bits| sum.wrapping_add(*bits));
+        let ends = bits.first() == Some(&first) && bits.last() == Some(&last);
+        tally.check(&format!("a mark on {grades} grades, regularised {regularised}"), summed == sum && ends);
+    }
+    let short = changed(star(129), |call| call.lent.work_floats = 20_671);
+    tally.check("129 grades with a float too little are refused 2", refused_as(&short, 2, 0));
+    tally.check("two markers of 129 grades are refused at the first", refused_as(&crowded(129, 2), 8, 0));
 }

@@ -34,6 +34,12 @@ impl Graph {
         self.markers += other.markers;
     }
 
+    /// One marker more, on these grades.
+    fn hang(&mut self, grades: impl IntoIterator<Item = usize>) {
+        self.pairs.extend(grades.into_iter().map(|grade| (grade, self.markers)));
+        self.markers += 1;
+    }
+
     fn fits(&self, other: &Graph, room: Room) -> bool {
         self.grades + other.grades <= room.grades
             && self.markers + other.markers <= room.markers
@@ -116,6 +122,25 @@ fn loopy(random: &mut Random, size: usize, room: Room) -> Graph {
     let (grades, markers) = (random.within(least, size), random.within(least, size));
     let pairs = random.below((grades * markers).min(room.pairs) + 1);
     random_pairs(random, Room { grades, markers, pairs, ..room })
+}
+
+/// A marker on over half as many grades as it may have, now and then another on as many of these, and more on two each, so that there are cycles.
+pub fn wide(random: &mut Random, room: Room) -> Graph {
+    let most = room.grades_of_a_marker.min(room.grades);
+    let least = most / 2 + 1;
+    let grades = random.within(least, most);
+    let mut graph = complete(grades, 1);
+    if random.once_in(3) {
+        let (first, width) = (random.below(grades), random.within(least, grades));
+        graph.hang((0..width).map(|i| (first + i) % grades));
+    }
+    let left = (room.markers - graph.markers).min((room.pairs - graph.pairs.len()) / 2);
+    for _ in 0..random.below(left + 1) {
+        let (grade, further) = (random.below(grades), random.within(1, grades - 1));
+        graph.hang([grade, (grade + further) % grades]);
+    }
+    graph.shuffle(random);
+    graph
 }
 
 fn any_shape(random: &mut Random, size: usize, room: Room) -> Graph {

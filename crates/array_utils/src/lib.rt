@@ -10,6 +10,7 @@ pub use exponential::exp;
 pub use ln::ln_from_table;
 pub use message::VariableMessage;
 pub use message::sum_logs_batched;
+pub use power::powers;
 pub use power::powi;
 pub use table::log_table;
 pub use vectors::avoid_underflow;

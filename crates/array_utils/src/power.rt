@@ -1,5 +1,8 @@
-// The power by the bits of the exponent, from the lowest.
+// Powers by the bits of the exponent, from the lowest: one, or all up to one.
 ghost use mathlib.Core.Path.{_≡_};
+ghost use mathlib.Core.List.{map};
+ghost use lib.ListN.{length};
+ghost use Rattle.definition.specs.Lists.{range};
 ghost use Rattle.definition.specs.Floats.{powi};
 
 pub fn powi(base: f32, n: u32) -> f32
@@ -17,4 +20,25 @@ pub fn powi(base: f32, n: u32) -> f32
         rest = rest / 2;
     }
     if rest == 1 { product * square } else { product }
+}
+
+// One product each: the power without the exponent's highest bit, times that bit's square.
+pub fn powers(out: &mut [f32], base: f32)
+    ensures { λ _. ⌜ now (out .exit) ≡ map (powi base) (range 0 (length (now (out .entry)))) ⌝ }
+{
+    if out.len() == 0 {
+        return;
+    }
+    out[0] = 1.0;
+    let mut square = base;
+    let mut bit: usize = 1;
+    let mut i: usize = 1;
+    while i < out.len() {
+        out[i] = out[i - bit] * square;
+        i += 1;
+        if i - bit == bit {
+            square = square * square;
+            bit = i;
+        }
+    }
 }

@@ -29,7 +29,7 @@ pub record Checked (f : Buffers) (g : ℕ) (es : List Float) (ps : List ℕ) : T
   pub markers : length es / 2 ≤ 1024
   pub pairs : length ps / 2 ≤ 8192
   pub known : (i : ℕ) → i < length ps / 2 → (getD ps (2 * i) 0 < g) × (getD ps (2 * i + 1) 0 < length es / 2)
-  pub few : (m : ℕ) → m < length es / 2 → length (gradesOf (pairsOf ps) m) ≤ 64
+  pub few : (m : ℕ) → m < length es / 2 → length (gradesOf (pairsOf ps) m) ≤ 128
   pub room : Room f g (length es / 2) (length ps / 2)
 
 module _ (s : Settings) (f : Buffers) (g : ℕ) (es : List Float) (ps : List ℕ) (h : verdict s f (baleOf g es ps) ≡ accepted) where
@@ -43,12 +43,12 @@ module _ (s : Settings) (f : Buffers) (g : ℕ) (es : List Float) (ps : List ℕ
       (subst (λ (n : ℕ). (getD (pairsOf ps) i noPair .grade < g) × (getD (pairsOf ps) i noPair .marker < n)) (length-markers es)
       (All-getD (λ q. (q .grade < g) × (q .marker < length (markersOf es))) (pairsOf ps) (valid (baleOf g es ps) (all .known)) noPair i (omega (arith, length-pairs ps))))
 
-  few-at : (m : ℕ) → m < length es / 2 → length (gradesOf (pairsOf ps) m) ≤ 64
+  few-at : (m : ℕ) → m < length es / 2 → length (gradesOf (pairsOf ps) m) ≤ 128
   unfolding baleOf
   few-at m l =
       let k : m < length (markersOf es) = omega (arith, length-markers es) in
-      subst (λ (n : ℕ). length (gradesOf (pairsOf ps) n) ≤ 64) (getD-range 0 (length (markersOf es)) m 0 k ∙ omega arith)
-      (All-getD (λ n. length (gradesOf (pairsOf ps) n) ≤ 64) (markerNumbers (baleOf g es ps)) (uncrowded (baleOf g es ps) (all .few)) 0 m (omega (arith, length-range 0 (length (markersOf es)))))
+      subst (λ (n : ℕ). length (gradesOf (pairsOf ps) n) ≤ 128) (getD-range 0 (length (markersOf es)) m 0 k ∙ omega arith)
+      (All-getD (λ n. length (gradesOf (pairsOf ps) n) ≤ 128) (markerNumbers (baleOf g es ps)) (uncrowded (baleOf g es ps) (all .few)) 0 m (omega (arith, length-range 0 (length (markersOf es)))))
 
   room-for : Room f g (length es / 2) (length ps / 2)
   unfolding tooSmall workNeeded baleOf

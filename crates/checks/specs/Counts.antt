@@ -74,9 +74,9 @@ module _ (g : ℕ) (es : List Float) (ps : List ℕ) where
   unfolding baleOf
   shared-count = length-map (markerNumbers (baleOf g es ps)) (tooManyGrades (baleOf g es ps)) ∙ length-range 0 (length (markersOf es)) ∙ length-markers es
 
-  pub shared-test : (m : ℕ) → m < length es / 2 → getD (map (tooManyGrades (baleOf g es ps)) (markerNumbers (baleOf g es ps))) m false ≡ ltb 64 (gradeCount (pairsOf ps) m)
+  pub shared-test : (m : ℕ) → m < length es / 2 → getD (map (tooManyGrades (baleOf g es ps)) (markerNumbers (baleOf g es ps))) m false ≡ ltb 128 (gradeCount (pairsOf ps) m)
   unfolding baleOf tooManyGrades
   shared-test m l =
       let k : m < length (markersOf es) = omega (arith, length-markers es) in
       getD-map (tooManyGrades (baleOf g es ps)) (range 0 (length (markersOf es))) m 0 (omega (arith, length-range 0 (length (markersOf es)), k))
-      ∙ ap (λ (n : ℕ). ltb 64 (gradeCount (pairsOf ps) n)) (getD-range 0 (length (markersOf es)) m 0 k ∙ omega arith)
+      ∙ ap (λ (n : ℕ). ltb 128 (gradeCount (pairsOf ps) n)) (getD-range 0 (length (markersOf es)) m 0 k ∙ omega arith)

@@ -244,7 +244,7 @@ fn check_repeated(pairs: &[u32]) -> Place
     Place::Nowhere
 }
 
-// ---- 8: a marker with over 64 grades
+// ---- 8: a marker with over 128 grades
 
 // Counts each marker's pairs.
 fn count_grades(pairs: &[u32], counts: &mut [u32; 1024])
@@ -272,7 +272,7 @@ fn check_shared(grades: u32, evidence: &[f32], pairs: &[u32]) -> Place
     let markers = evidence.len() / 2;
     let mut m: usize = 0;
     while m < markers {
-        if 64 < counts[m] {
+        if 128 < counts[m] {
             return Place::At(m as u32);
         }
         m += 1;

@@ -130,7 +130,7 @@ fn finish(w: &mut [f32], e: usize, end: usize)
 // How many floats a tree over n grades needs behind its messages.
 pub fn scratch_len(n: usize) -> usize
     requires { ⌜ n ≤ 128 ⌝ }
-    ensures { λ r. ⌜ (r ≡ scratchLen n) × (r ≤ 1279) × (n ≤ 64 → r ≤ 575) ⌝ }
+    ensures { λ r. ⌜ (r ≡ scratchLen n) × (r ≤ 1279) ⌝ }
 {
     let s = size_for(n);
     (s.layers + 3) * s.leaves - (2 * n + 1)

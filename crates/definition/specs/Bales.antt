@@ -44,9 +44,9 @@ shared n = record { grades = n; markers = record { absent = halfᶠ; present = h
 abbrev unmarked : ℕ → Bale
 unmarked g = record { grades = g; markers = []; pairs = [] }
 
--- as much of each buffer as 65 grades on a marker ask for
+-- as much of each buffer as 129 grades on a marker ask for
 abbrev ample : Buffers
-ample = record { workFloats = 20000; workNumbers = 20000; beliefNumbers = 100; beliefFloats = 200; endingNumbers = 400; endingFloats = 100 }
+ample = record { workFloats = 20672; workNumbers = 20672; beliefNumbers = 129; beliefFloats = 258; endingNumbers = 516; endingFloats = 129 }
 
 -- how many nodes and edges each component has
 abbrev sizes : Bale → List (List ℕ)
@@ -82,8 +82,8 @@ pub record Bales : Type 0 where
   -- the ends of two checks
   pub alpha-least : verdict (settings 1 1024 false) ample (shared 1) ≡ accepted
   pub alpha-less : verdict (settings 1 2048 false) ample (shared 1) ≡ refused 3 0
-  pub sixty-four : verdict (settings 1 2 false) ample (shared 64) ≡ accepted
-  pub sixty-five : verdict (settings 1 2 false) ample (shared 65) ≡ refused 8 0
+  pub most-grades : verdict (settings 1 2 false) ample (shared 128) ≡ accepted
+  pub one-grade-more : verdict (settings 1 2 false) ample (shared 129) ≡ refused 8 0
 
 pub bales : Bales
 unfolding round add sub mul div neg lt le eq isNan ofInt toUnsigned toBits size ofBits maxᶠ abs avoidUnderflow clamp logTableNumber logTableEntry lnOfBits ln expSeries expReduced exp powiFrom powi sumOf productFrom productOf normalize avoidUnderflowAll logNormalize sumLogBlocks sumLogsBatched cpdAbsent cpdAbsentRegularised cpdRows cpdTable convolve countLayer messageUp likelihoodsBelow treeLayers logLength firstLayer treeMessages builtGraph walk components componentsOf subgraph subgraphOf edgeAt directionTo directionsTo firstsIncoming directionFrom messageNodesFrom messageGraph messageGraphOf setMessages copyNode copyNodes initialBelief outMessageLog outMessageVariable outMessageFactor outMessageFactorTo outMessageBy outMessage absLogRatio pairResidual vectorResidual residual equalMessages messageChange changeExceeds needsRebuild treeOutMessages outMessagesTree outMessages initialMessage updateKind openingInput openingFactor logTotal leaveOneOut openingVariable openingGrade initializeMessages opening computeUpdate sweep initialPriority beginLoop exceeds higher highestFrom highestPriority updateSingle neighbourNumbers updateTree updateMessage otherOutgoing addPending pushPriorities scheduledStep applyEvent stateAfter openingAndSweeps events loop run logMarginal marginal beliefsAmong partAnswer answersOf answersFrom answer endingNumber endingResidual answeredBeliefs beliefNumbers beliefFloats endingNumbers endingFloats markersOf pairsOf baleOf outside tooMany workNeeded tooSmall badTolerance badEvidence unknownPair equalPairs lowestPlaceFrom lowestPlace isAmong repeatedPairs tooManyGrades orRefused verdict words wordKind bits fieldWidth cleanWord mayFollow badWordFrom badWord wordsOfKind firstOfKind settingsOf evidenceOf pairOf baleOfWords decimalBefore decimal hexDigit hexBefore hex line partFields beliefLine beliefLines partLines baleLine refusal verdictLines fileLines listing ascii
@@ -104,6 +104,6 @@ bales =
       exp-minus-88 = refl;
       alpha-least = refl;
       alpha-less = refl;
-      sixty-four = refl;
-      sixty-five = refl;
+      most-grades = refl;
+      one-grade-more = refl;
     }

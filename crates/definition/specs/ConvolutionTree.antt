@@ -1,5 +1,5 @@
--- The convolution tree (O. Serang, The probabilistic convolution tree, PLoS ONE 9(3), 2014; src/convolution_tree.rs). With at most 64 grades the shorter of
--- two vectors has at most 33 entries, so that the Rust convolves directly everywhere.
+-- The convolution tree (O. Serang, The probabilistic convolution tree, PLoS ONE 9(3), 2014; src/convolution_tree.rs). With at most 128 grades the shorter of
+-- two vectors has at most 65 entries; every convolution is direct, as the Rust's is with its DIRECT_CONVOLUTION_MAX_LEN at 256.
 use Prim.Native.Nat.{ℕ, zero, suc, _+_, _-_, _^_}
 use mathlib.Core.List.{List, [], _∷_, _++_, map, reverse}
 use lib.Ieee.{Float, size}

@@ -99,7 +99,7 @@ repeatedPairs before [] = []
 repeatedPairs before (p ∷ ps) = isAmong p before ∷ repeatedPairs (p ∷ before) ps
 
 unfoldable pub tooManyGrades : Bale → ℕ → Bool
-tooManyGrades b m = ltb 64 (length (gradesOf (b .pairs) m))
+tooManyGrades b m = ltb 128 (length (gradesOf (b .pairs) m))
 
 -- ---- the verdict
 

@@ -150,18 +150,18 @@ from-once before (p ∷ ps) n h = (given-mem p before ∙ h .0, from-once (p ∷
 pub pairs-apart : (b : Bale) → All (λ c. c ≡ false) (repeatedPairs [] (b .pairs)) → NoDup eqPair (b .pairs)
 pairs-apart b h = once-from [] (b .pairs) h .0
 
--- no marker has over 64 grades
-pub uncrowded : (b : Bale) → All (λ c. c ≡ false) (map (tooManyGrades b) (markerNumbers b)) → All (λ m. length (gradesOf (b .pairs) m) ≤ 64) (markerNumbers b)
+-- no marker has over 128 grades
+pub uncrowded : (b : Bale) → All (λ c. c ≡ false) (map (tooManyGrades b) (markerNumbers b)) → All (λ m. length (gradesOf (b .pairs) m) ≤ 128) (markerNumbers b)
 unfolding tooManyGrades
 uncrowded b h =
-    All-mono (λ m. tooManyGrades b m ≡ false) (λ m. length (gradesOf (b .pairs) m) ≤ 64) (λ m n. no-ltb _ _ n) (markerNumbers b)
+    All-mono (λ m. tooManyGrades b m ≡ false) (λ m. length (gradesOf (b .pairs) m) ≤ 128) (λ m n. no-ltb _ _ n) (markerNumbers b)
     (All-map-from (λ c. c ≡ false) (tooManyGrades b) (markerNumbers b) h)
 
-crowded-not : (b : Bale) → All (λ m. length (gradesOf (b .pairs) m) ≤ 64) (markerNumbers b) → All (λ c. c ≡ false) (map (tooManyGrades b) (markerNumbers b))
+crowded-not : (b : Bale) → All (λ m. length (gradesOf (b .pairs) m) ≤ 128) (markerNumbers b) → All (λ c. c ≡ false) (map (tooManyGrades b) (markerNumbers b))
 unfolding tooManyGrades
 crowded-not b h =
     All-map-into (λ c. c ≡ false) (tooManyGrades b) (markerNumbers b)
-    (All-mono (λ m. length (gradesOf (b .pairs) m) ≤ 64) (λ m. tooManyGrades b m ≡ false) (λ m n. ltb-no _ _ n) (markerNumbers b) h)
+    (All-mono (λ m. length (gradesOf (b .pairs) m) ≤ 128) (λ m. tooManyGrades b m ≡ false) (λ m n. ltb-no _ _ n) (markerNumbers b) h)
 
 -- ---- a smaller bale has the sizes and the buffers that a larger one has
 
@@ -230,7 +230,7 @@ module _ (s : Settings) (f : Buffers) (b : Bale) (P : Passes s f b) (p : List No
         evidence = All-map-into (λ c. c ≡ false) badEvidence (partAlone b p .markers) (evidence-kept b ok p both inside (λ e. badEvidence e ≡ false) (All-map-from (λ c. c ≡ false) badEvidence (b .markers) (P .evidence)));
         known = known-of (partAlone b p) (passes b ok p is);
         once = from-once [] (partAlone b p .pairs) (pairs-once b ok p both inside (pairs-apart b (P .once))) (none (partAlone b p .pairs));
-        few = crowded-not (partAlone b p) (counts-kept b ok p both inside (λ n. n ≤ 64) (uncrowded b (P .few)));
+        few = crowded-not (partAlone b p) (counts-kept b ok p both inside (λ n. n ≤ 128) (uncrowded b (P .few)));
       }
     where
       none : (ps : List Pair) → All (λ q. mem eqPair q [] ≡ false) ps

@@ -360,11 +360,11 @@ module _ {A : Type 0} (eq : A → A → Bool) (sound : (a b : A) → eq a b ≡ 
     NodeKept grade v = (length (inc v) ≤ 1024) × All BinaryEdges (inc v)
     NodeKept (factor d) v = Unit {0}
     NodeKept (input x) v = ((length (inc v) ≤ 1024) × All BinaryEdges (inc v)) × Good (initialBelief s (input x))
-    NodeKept (tree d) v = (3 ≤ length (inc v)) × (length (inc v) ≤ 65) × FactorFirstEdges (length (inc v)) (inc v)
+    NodeKept (tree d) v = (3 ≤ length (inc v)) × (length (inc v) ≤ 129) × FactorFirstEdges (length (inc v)) (inc v)
 
     -- a factor that sends along e to a grade or a tree has e first in its list, and one edge more
     abbrev pub Front : ℕ → A → Edge A → Type 0
-    Front d w e = (d ≤ 65) × ((f : Edge A) × ((inc w ≡ e ∷ f ∷ []) × BinaryEdges f))
+    Front d w e = (d ≤ 129) × ((f : Edge A) × ((inc w ≡ e ∷ f ∷ []) × BinaryEdges f))
 
     abbrev pub EdgeKept : Kind → Kind → A → Edge A → Type 0
     EdgeKept grade j w e = Unit {0}

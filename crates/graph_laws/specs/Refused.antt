@@ -47,8 +47,8 @@ pub data Fails (s : Settings) (f : Buffers) (b : Bale) : ℕ → ℕ → Type 0 
   unknownMarker : {i : ℕ} {q : Pair} → getElem? (b .pairs) i ≡ some q → length (b .markers) ≤ q .marker → Fails s f b 6 i
   -- 7: pair i was given before, as pair j
   again : {i : ℕ} {q : Pair} (j : ℕ) → j < i → getElem? (b .pairs) j ≡ some q → getElem? (b .pairs) i ≡ some q → Fails s f b 7 i
-  -- 8: marker m has over 64 grades
-  crowds : {m : ℕ} → m < length (b .markers) → 64 < length (gradesOf (b .pairs) m) → Fails s f b 8 m
+  -- 8: marker m has over 128 grades
+  crowds : {m : ℕ} → m < length (b .markers) → 128 < length (gradesOf (b .pairs) m) → Fails s f b 8 m
 
 -- the first that fails: by number, then by place
 pub record First (F : ℕ → ℕ → Type 0) (n p : ℕ) : Type 0 where
@@ -304,7 +304,7 @@ module _ (s : Settings) (f : Buffers) (b : Bale) where
       let r = map-test (tooManyGrades b) (markerNumbers b) p h in
       let c = count-at 0 (length (b .markers)) p (r .0) (r .1) in
       let e : r .0 ≡ p = omega arith in
-      crowds (c .1) (subst (λ (m : ℕ). 64 < length (gradesOf (b .pairs) m)) e (true-lt _ _ (r .2)))
+      crowds (c .1) (subst (λ (m : ℕ). 128 < length (gradesOf (b .pairs) m)) e (true-lt _ _ (r .2)))
 
   row : (n p : ℕ) → test (checks s f b) n p ≡ true → Fails s f b (suc n) p
   row zero p h = row1 p h

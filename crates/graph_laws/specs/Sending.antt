@@ -49,11 +49,11 @@ module _ (Good : Message → Type 0) where
   MessageNodeKept t s grade x = Paired t x
   MessageNodeKept t s (input e) x = Paired t x × Good (initialBelief s (input e))
   MessageNodeKept t s (factor d) x = Unit {0}
-  MessageNodeKept t s (tree d) x = length (x .outgoing) ≤ 65
+  MessageNodeKept t s (tree d) x = length (x .outgoing) ≤ 129
 
   -- a factor, where it sends to a grade or a tree, has that one first in its list, and holds its input's message next
   pub record FactorKept (t : MessageGraph) (d i : ℕ) (x : MessageNode) : Type 0 where
-    pub few : d ≤ 65
+    pub few : d ≤ 129
     pub first-slot : i ≡ 0
     pub two-neighbours : 2 ≤ length (x .outgoing)
     pub inside : x .firstIncoming + 1 < length (t .directions)
@@ -185,12 +185,12 @@ module _ (Good : Message → Type 0) where
     all-grades (x ∷ xs) a b = ((λ h ms f. each-both (x .outgoing) _ (b .0 h ms (as-long-of ms f)) (each-good (x .outgoing) _ (good-grades (x .kind) x (a .0) h ms f))), all-grades xs (a .1) (b .1))
 
     -- ---- a tree
-    -- It holds a factor's message and those of 2 to 64 grades, all good.
+    -- It holds a factor's message and those of 2 to 128 grades, all good.
     abbrev pub OfHeld : (List Message → Type 0) → Type 0
-    OfHeld Q = (f : Message) (gs : List Message) → 2 ≤ length gs → length gs ≤ 64 → length f ≡ suc (length gs) → Good f → Long 2 gs → Goods gs → Q (f ∷ gs)
+    OfHeld Q = (f : Message) (gs : List Message) → 2 ≤ length gs → length gs ≤ 128 → length f ≡ suc (length gs) → Good f → Long 2 gs → Goods gs → Q (f ∷ gs)
 
     module _ (Q : List Message → Type 0) (q : OfHeld Q) where
-      held-built : (k : ℕ) (is : List ℕ) (hs : List Message) → length hs ≡ k → length is ≡ k → 3 ≤ k → k ≤ 65
+      held-built : (k : ℕ) (is : List ℕ) (hs : List Message) → length hs ≡ k → length is ≡ k → 3 ≤ k → k ≤ 129
           → Below Bound is → FactorFirst t k is → Each (AsLong t) is hs → Goods hs → Q hs
       held-built k is [] p r n m b l e g = absurd (let z : ⊥ = omega arith in z)
       held-built k [] (f ∷ gs) p r n m b l e g = absurd (let z : ⊥ = omega arith in z)

@@ -47,7 +47,7 @@ single Q (g ∷ []) h f = (f g refl, tt)
 single Q (g ∷ k ∷ gs) h f = absurd (let z : ⊥ = omega (arith, nleb→lt 2 (length (g ∷ k ∷ gs)) (T-no (leb 2 (length (g ∷ k ∷ gs))) h)) in z)
 
 module _ (Good : Message → Type 0) (s : Settings) (b : Bale) (ok : Valid b) (once : NoDup eqPair (b .pairs)) (size : length (b .markers) ≤ 1024)
-    (few : All (λ m. length (gradesOf (b .pairs) m) ≤ 64) (markerNumbers b)) (evidence : All (λ e. Good (initialBelief s (input e))) (b .markers)) (p : List Node) (is : Part b ok p) where
+    (few : All (λ m. length (gradesOf (b .pairs) m) ≤ 128) (markerNumbers b)) (evidence : All (λ e. Good (initialBelief s (input e))) (b .markers)) (p : List Node) (is : Part b ok p) where
   both : All (Both eqNode p) (builtEdges b)
   unfolding builtGraph
   both = is .both
@@ -71,8 +71,8 @@ module _ (Good : Message → Type 0) (s : Settings) (b : Bale) (ok : Valid b) (o
   is-node : (v : Node) → Holds eqNode p v → Holds eqNode (builtNodes b) v
   is-node v h = All-at eqNode eqNode-sound (Holds eqNode (builtNodes b)) p (of-nodes b ok p is) v h
 
-  few-at : (m : ℕ) → mem eqb m (markerNumbers b) ≡ true → length (gs m) ≤ 64
-  few-at m i = All-at eqb eqb-sound (λ k. length (gs k) ≤ 64) (markerNumbers b) few m i
+  few-at : (m : ℕ) → mem eqb m (markerNumbers b) ≡ true → length (gs m) ≤ 128
+  few-at m i = All-at eqb eqb-sound (λ k. length (gs k) ≤ 128) (markerNumbers b) few m i
 
   -- what holds of each edge, marker by marker, holds of an edge in a node's list
   each : (P : Edge Node → Type 0) → ((m : ℕ) → mem eqb m (markerNumbers b) ≡ true → All P (markerEdges m (gs m))) → (v : Node) (e : Edge Node) → In v e → P e
@@ -168,7 +168,7 @@ module _ (Good : Message → Type 0) (s : Settings) (b : Bale) (ok : Valid b) (o
       let n : (mem eqb m (markerNumbers b) && hasTree (gs m)) ≡ true = sym (node-tree b m) ∙ is-node (treeNode m) h in
       let i = and-left (mem eqb m (markerNumbers b)) (hasTree (gs m)) n in
       let k = and-right (mem eqb m (markerNumbers b)) (hasTree (gs m)) n in
-      subst (λ (l : List (Edge Node)). (3 ≤ length l) × (length l ≤ 65) × FactorFirstEdges (length l) l) (sym (tree-list b m i k)) (
+      subst (λ (l : List (Edge Node)). (3 ≤ length l) × (length l ≤ 129) × FactorFirstEdges (length l) l) (sym (tree-list b m i k)) (
         omega (arith, hasTree-le (gs m) k, length-map (gs m) (λ g. toGrade m g)),
         omega (arith, few-at m i, length-map (gs m) (λ g. toGrade m g)),
         (ap suc (sym (length-map (gs m) (λ g. toGrade m g))), All-map-into BinaryEdges (λ g. toGrade m g) (gs m) (All-every (λ g. BinaryEdges (toGrade m g)) (λ g. refl) (gs m))),

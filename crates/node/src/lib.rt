@@ -1,16 +1,12 @@
 // `fill_in_factor` of src/node.rs: the noisy-OR table of a marker, in a row of floats that the caller lends.
 ghost use mathlib.Core.Path.{_≡_};
+ghost use mathlib.Core.Bool.{true};
 ghost use Prim.Native.Nat.{max, _*_, _≤_};
 ghost use lib.ListN.{length};
+ghost use lib.Ieee.{Float};
+ghost use Rattle.definition.specs.Floats.{_⊖_, oneᶠ, powi};
 ghost use Rattle.definition.specs.NoisyOr.{cpdAbsent, cpdAbsentRegularised, cpdRows, cpdTable};
 ghost use Rattle.node.specs.Rows.{flatRows, given, absentAt, rowTotal};
-
-// The Rust's cpd_0: (1 - alpha)^i * (1 - beta).
-fn cpd_absent(alpha: f32, beta: f32, regularised: bool, i: u32) -> f32
-    ensures { λ r. ⌜ r ≡ cpdAbsent (given alpha beta regularised) i ⌝ }
-{
-    array_utils::powi(1.0 - alpha, i) * (1.0 - beta)
-}
 
 // An entry of the Rust's divide_array: max(i, 1).
 fn divide_entry(i: u32) -> u32
@@ -19,23 +15,24 @@ fn divide_entry(i: u32) -> u32
     if i == 0 { 1 } else { i }
 }
 
-// The Rust's cpd_regularized_0: cpd_0^i * (1 - beta) / max(i, 1).
-fn cpd_regularised_absent(alpha: f32, beta: f32, regularised: bool, i: u32) -> f32
+// The Rust's cpd_regularized_0, of its cpd_0: cpd_0^i * (1 - beta) / max(i, 1).
+fn cpd_regularised_absent(cpd: f32, beta: f32, i: u32) -> f32
     requires { ⌜ i ≤ 129 ⌝ }
-    ensures { λ r. ⌜ r ≡ cpdAbsentRegularised (given alpha beta regularised) i ⌝ }
+    ensures { λ r. ⌜ ((alpha : Float) → cpd ≡ cpdAbsent (given alpha beta true) i → r ≡ cpdAbsentRegularised (given alpha beta true) i) ⌝ }
 {
-    let cpd = cpd_absent(alpha, beta, regularised, i);
     array_utils::powi(cpd, i) * (1.0 - beta) / (divide_entry(i) as f32)
 }
 
-fn row_absent(alpha: f32, beta: f32, regularised: bool, i: u32) -> f32
+// Of the power (1 - alpha)^i, which gives the Rust's cpd_0: (1 - alpha)^i * (1 - beta).
+fn row_absent(power: f32, beta: f32, regularised: bool, i: u32) -> f32
     requires { ⌜ i ≤ 129 ⌝ }
-    ensures { λ r. ⌜ r ≡ absentAt (given alpha beta regularised) i ⌝ }
+    ensures { λ r. ⌜ ((alpha : Float) → power ≡ powi (oneᶠ ⊖ alpha) i → r ≡ absentAt (given alpha beta regularised) i) ⌝ }
 {
+    let cpd = power * (1.0 - beta);
     if regularised {
-        cpd_regularised_absent(alpha, beta, regularised, i)
+        cpd_regularised_absent(cpd, beta, i)
     } else {
-        cpd_absent(alpha, beta, regularised, i)
+        cpd
     }
 }
 
@@ -44,14 +41,17 @@ fn fill_rows(cpd: &mut [f32], degree: u32, alpha: f32, beta: f32, regularised: b
     requires { ⌜ (degree ≤ 129) × (length (now cpd) ≡ 2 * degree) ⌝ }
     ensures { λ r. ⌜ (now (cpd .exit) ≡ flatRows (cpdRows (given alpha beta regularised) degree)) × (r ≡ rowTotal (given alpha beta regularised) degree) ⌝ }
 {
+    // The powers wait in the second half: row i is written no further than where its own stood.
+    let powers = degree as usize;
+    array_utils::powers(&mut cpd[powers..], 1.0 - alpha);
     let mut sum: f32 = 0.0;
     let mut i: u32 = 0;
     while i < degree {
-        let absent = row_absent(alpha, beta, regularised, i);
+        let row = i as usize;
+        let absent = row_absent(cpd[powers + row], beta, regularised, i);
         let present = 1.0 - absent;
-        let at = 2 * (i as usize);
-        cpd[at] = absent;
-        cpd[at + 1] = present;
+        cpd[2 * row] = absent;
+        cpd[2 * row + 1] = present;
         sum += absent + present;
         i += 1;
     }

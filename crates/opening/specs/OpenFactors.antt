@@ -50,7 +50,7 @@ first-only (o ∷ os) f l p h a =
 -- to what is no input
 pub record FactorOut (s : Settings) (t : MessageGraph) (x : MessageNode) (i l : ℕ) (hs : List Message) (m : Message) : Type 0 where
   pub is : m ≡ outMessageFactor s l (messageAt (1 - i) hs)
-  pub few : l ≤ 65
+  pub few : l ≤ 129
   pub first-slot : i ≡ 0
   pub two-neighbours : 2 ≤ length (x .outgoing)
   pub input-there : x .firstIncoming + 1 < length (t .directions)
@@ -185,7 +185,7 @@ module _ (s : Settings) (t : MessageGraph) (kinds firsts starts outs offsets lab
     first-is = omega (arith, Q .first n h)
 
     -- what the code's ranges need
-    pub factor-few : getD offsets (getD outs (getD firsts n 0) 0 + 1) 0 - getD offsets (getD outs (getD firsts n 0) 0) 0 ≤ 65
+    pub factor-few : getD offsets (getD outs (getD firsts n 0) 0 + 1) 0 - getD offsets (getD outs (getD firsts n 0) 0) 0 ≤ 129
     factor-few = omega (arith, len-is, ap (λ (m : ℕ). directionAt t m .messageLength) o-is, first-out .few)
 
     pub factor-two : getD firsts n 0 + 1 < length (t .directions)

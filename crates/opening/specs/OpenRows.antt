@@ -115,7 +115,7 @@ pub record SendRoom (offsets : List ℕ) (row : List Float) (out inn : ℕ) : Ty
   pub in-there : inn < length offsets
   pub ordered : getD offsets out 0 ≤ getD offsets (out + 1) 0
   pub inside : getD offsets (out + 1) 0 ≤ length row
-  pub few : getD offsets (out + 1) 0 - getD offsets out 0 ≤ 65
+  pub few : getD offsets (out + 1) 0 - getD offsets out 0 ≤ 129
   pub two : getD offsets inn 0 + 1 < length row
 
 -- ---- a grade

@@ -118,7 +118,7 @@ fn send_factor(
     let message = get_message(row, word(offsets, inn));
     let degree = to - from;
     let twice = 2 * degree;
-    let mut cpd = [0.0f32; 130];
+    let mut cpd = [0.0f32; 258];
     out_message_factor(
         &mut row[from..to],
         &mut cpd[0..twice],

@@ -161,7 +161,7 @@ copied-up w from to n h g =
 
 -- The factor holds two messages: that of its input, the second, has two floats; the new row holds what it sends.
 pub record Factoring (outs offsets : List ℕ) (l f room : ℕ) : Type 0 where
-  pub few : getD offsets (f + 1) 0 ≤ getD offsets f 0 + 65
+  pub few : getD offsets (f + 1) 0 ≤ getD offsets f 0 + 129
   pub order : getD offsets f 0 ≤ getD offsets (f + 1) 0
   pub held : getD offsets (f + 1) 0 + 2 ≤ l
   pub roomy : l + l ≤ room

@@ -33,7 +33,7 @@ use Rattle.sweeps.specs.SweepTree.{scattering}
 pub region-behind : (p q : List Float) (a b m : ℕ) → a ≡ length p + b → region (p ++ q) a m ≡ region q b m
 region-behind p q a b m e = ap (λ (i : ℕ). take m (drop i (p ++ q))) e ∙ ap (take m) (drop-append-add p q b)
 
-tree-few : (t : MessageGraph) (s : Settings) (k : Kind) (x : MessageNode) → kindCode k ≡ 3 → MessageNodeKept (λ m. Unit {0}) t s k x → length (x .outgoing) ≤ 65
+tree-few : (t : MessageGraph) (s : Settings) (k : Kind) (x : MessageNode) → kindCode k ≡ 3 → MessageNodeKept (λ m. Unit {0}) t s k x → length (x .outgoing) ≤ 129
 tree-few t s grade x e m = absurd (let z : ⊥ = omega arith in z)
 tree-few t s (factor d) x e m = absurd (let z : ⊥ = omega arith in z)
 tree-few t s (input y) x e m = absurd (let z : ⊥ = omega arith in z)
@@ -67,7 +67,7 @@ module _ (s : Settings) (t : MessageGraph) (kinds firsts starts outs offsets lab
   pub tree-some : 3 ≤ length (nodeAt t n .outgoing)
   tree-some = tree-degree (P .subgraph) t (P .consistent) (P .kept .sound) n h e
 
-  few : k ≤ 65
+  few : k ≤ 129
   few = tree-few t s (x .kind) x e (All-getD (λ y. MessageNodeKept (λ m. Unit {0}) t s (y .kind) y) (t .nodes) (P .kept .nodes) noMessageNode n h)
 
   first : longAt ds (x .firstIncoming) ≡ k

@@ -123,7 +123,7 @@ pub fn send_factor(
     let n = degree as usize;
     let end = to + n;
     let rows = n + n;
-    let mut cpd = [0.0; 130];
+    let mut cpd = [0.0; 258];
     out_message_factor(
         &mut w[to..end],
         &mut cpd[..rows],

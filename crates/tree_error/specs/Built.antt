@@ -118,7 +118,7 @@ module _ (f : Message) (ms : List Message) (two : 2 ≤ length ms) (few : length
       }
 
 -- ---- of a run
-near-exact-of : (f : Message) (ms : List Message) → 2 ≤ length ms → length ms ≤ 64 → length f ≡ suc (length ms) → Bounded f → Long 2 ms → Goods Bounded ms → NearExactOf (f ∷ ms)
+near-exact-of : (f : Message) (ms : List Message) → 2 ≤ length ms → length ms ≤ 128 → length f ≡ suc (length ms) → Bounded f → Long 2 ms → Goods Bounded ms → NearExactOf (f ∷ ms)
 unfolding treeOutMessages
 near-exact-of f ms two _ e b l g few = near-exact f ms two few e b l g
 

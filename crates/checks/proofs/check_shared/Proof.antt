@@ -39,8 +39,8 @@ returns c =
     let s = c .before .before .loop in
     let a = c .before .before .before .before .before .before .before .args in
     let n = c .before .before .before .count-grades .ensures (s .m) (omega arith) in
-    let l : 64 < gradeCount (pairsOf (a .pairs .now)) (s .m) = omega (arith, n, c .if1 .taken) in
-    reached-here _ (s .m) (omega (arith, shared-count (a .grades) (a .evidence .now) (a .pairs .now))) (shared-test (a .grades) (a .evidence .now) (a .pairs .now) (s .m) (omega arith) ∙ lt-ltb 64 _ l) (s .inv .2)
+    let l : 128 < gradeCount (pairsOf (a .pairs .now)) (s .m) = omega (arith, n, c .if1 .taken) in
+    reached-here _ (s .m) (omega (arith, shared-count (a .grades) (a .evidence .now) (a .pairs .now))) (shared-test (a .grades) (a .evidence .now) (a .pairs .now) (s .m) (omega arith) ∙ lt-ltb 128 _ l) (s .inv .2)
 
 add-m : tie.Need-add-m Inv-loop μ-loop
 add-m c = omega arith
@@ -53,9 +53,9 @@ loop-again c =
     let s = c .before .before .loop in
     let a = c .before .before .before .before .before .before .before .args in
     let n = c .before .before .before .count-grades .ensures (s .m) (omega arith) in
-    let l : gradeCount (pairsOf (a .pairs .now)) (s .m) ≤ 64 = omega (arith, n, c .if1 .left) in
+    let l : gradeCount (pairsOf (a .pairs .now)) (s .m) ≤ 128 = omega (arith, n, c .if1 .left) in
     let k : s .m < length (map (tooManyGrades (baleOf (a .grades) (a .evidence .now) (a .pairs .now))) (markerNumbers (baleOf (a .grades) (a .evidence .now) (a .pairs .now)))) = omega (arith, shared-count (a .grades) (a .evidence .now) (a .pairs .now)) in
-    (refl, omega arith, reached-next _ (s .m) k (shared-test (a .grades) (a .evidence .now) (a .pairs .now) (s .m) (omega arith) ∙ le-ltb 64 _ l) (s .inv .2))
+    (refl, omega arith, reached-next _ (s .m) k (shared-test (a .grades) (a .evidence .now) (a .pairs .now) (s .m) (omega arith) ∙ le-ltb 128 _ l) (s .inv .2))
 
 returns-2 : tie.Need-returns-2 Inv-loop μ-loop
 returns-2 c = reached-end _ (c .before .loop .m) (omega (arith, shared-count (c .before .before .before .before .before .before .args .grades) (c .before .before .before .before .before .before .args .evidence .now) (c .before .before .before .before .before .before .args .pairs .now))) (c .before .loop .inv .2)

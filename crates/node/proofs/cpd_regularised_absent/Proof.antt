@@ -10,9 +10,6 @@ use Rattle.definition.specs.NoisyOr.{cpdAbsentRegularised}
 use Rattle.node.proofs.cpd_regularised_absent.Statement.{statement}
 use Rattle.node.proofs.cpd_regularised_absent.Tie as tie
 
-cpd-absent-requires : tie.Need-cpd-absent-requires
-cpd-absent-requires c κs = search needs
-
 powi-requires : tie.Need-powi-requires
 powi-requires c κs = search needs
 
@@ -28,12 +25,9 @@ joined b m p x i k e f g = rw (e, f, g)
 
 returns : tie.Need-returns
 unfolding ofBits cpdAbsentRegularised
-returns c =
-    let d = c .before in
-    let s = d .before .before .before .args in
-    joined (s .beta) (d .before .before .cpd-absent .result) (d .before .powi .result) _ (s .i) (d .divide-entry .result) (d .before .powi .ensures) (d .before .before .cpd-absent .ensures) (d .divide-entry .ensures)
+returns c = λ alpha f.
+    let s = c .before .before .before .args in
+    joined (s .beta) (s .cpd) (c .before .before .powi .result) _ (s .i) (c .before .divide-entry .result) (c .before .before .powi .ensures) f (c .before .divide-entry .ensures)
 
 pub cpd-regularised-absent-spec : {M : Type 1} → statement M
-cpd-regularised-absent-spec =
-    tie.close
-    (tie.spec cpd-absent-requires powi-requires divide-entry-requires int-to-float-result returns)
+cpd-regularised-absent-spec = tie.close (tie.spec powi-requires divide-entry-requires int-to-float-result returns)

@@ -1,61 +1,109 @@
--- `node::fill_rows` meets its contract: after i turns the first 2 * i floats are written, and the sum is that of the first i rows.
+-- `node::fill_rows` meets its contract: after i turns the first 2 * i floats are written, the powers from the i-th on still wait, and the sum is that of the first
+-- i rows.
 use mathlib.Core.Path.{_≡_, refl, sym, ap, _∙_}
-use mathlib.Core.List.{List}
+use mathlib.Core.List.{List, _++_, map}
 use Prim.Native.Nat.{ℕ, _+_, _*_, _-_, _≤_, _<_}
-use native.Mathlib.Nat.{zero-add}
+use native.Mathlib.Nat.{not-suc-le-zero}
 use native.Mathlib.Numerals.{add-one}
 use native.Mathlib.Omega.{arith}
-use lib.ListN.{length, length-set, getD, set, take}
-use lib.Seq.{take-all}
+use borrow.Author.Needs.{needs}
+use lib.ListN.{length, length-set, getD, set, take, drop}
+use lib.Seq.{take-all, getD-set-other, ext-getD}
 use lib.Ieee.{Float, nan, ofBits}
-use Rattle.list_laws.specs.Write.{write, write-none, write-next}
-use Rattle.list_laws.specs.Whole.{write-whole}
-use Rattle.definition.specs.Floats.{_⊕_, _⊖_, oneᶠ}
+use Rattle.list_laws.specs.Part.{length-region}
+use Rattle.list_laws.specs.Put.{put-part, length-put, put-in}
+use Rattle.definition.specs.Floats.{_⊕_, _⊖_, oneᶠ, powi}
 use Rattle.definition.specs.Vectors.{sumOf}
+use Rattle.definition.specs.Lists.{range}
 use Rattle.definition.specs.Settings.{Settings}
 use Rattle.definition.specs.NoisyOr.{cpdRows}
+use Rattle.array_utils.specs.Counts.{count-at, length-count, Begun, begun-next}
 use Rattle.array_utils.specs.VectorLaws.{total-none, total-step}
 use Rattle.node.specs.Rows.{flatRows, given, absentAt, sums, even-at, odd-at, sum-at, length-rows, length-sums}
 use Rattle.node.proofs.fill_rows.Statement.{statement}
 use Rattle.node.proofs.fill_rows.Tie as tie
 
+-- the powers, in the second half
+waiting : (l s : List Float) (d : ℕ) (base : Float) → length l ≡ 2 * d → s ≡ map (powi base) (range 0 (length (take (length l - d) (drop d l)))) →
+    let w = take d l ++ (s ++ drop (length l - d) (drop d l)) in (length w ≡ 2 * d) × ((k : ℕ) → k < d → getD w (d + k) nan ≡ powi base k)
+waiting l s d base e p =
+    let n : length (take (length l - d) (drop d l)) ≡ d = length-region l d (length l - d) (omega arith) ∙ omega arith in
+    let q : s ≡ map (powi base) (range 0 d) = p ∙ ap (λ (m : ℕ). map (powi base) (range 0 m)) n in
+    let m : length s ≡ d = ap length q ∙ length-count (powi base) 0 d in
+    let w = put-part l s d (length l - d) (omega arith) in (
+      ap length w ∙ length-put l d s (omega arith) ∙ e,
+      (λ k h. ap (λ (u : List Float). getD u (d + k) nan) w ∙ put-in l d s nan k (omega arith) (omega arith) ∙ ap (λ (u : List Float). getD u k nan) q ∙ count-at (powi base) nan d k h),
+    )
+
+-- entry k of the rows
+abbrev entryAt : Settings → ℕ → ℕ → Float
+entryAt s d k = getD (flatRows (cpdRows s d)) k nan
+
 abbrev Inv-loop : tie.InvT-loop
-Inv-loop cpd₀ degree alpha beta regularised sum₀ i₀ cpd sum i =
+Inv-loop cpd₀ degree alpha beta regularised powers₀ sum₀ i₀ cpd sum i =
     (i ≤ degree)
-    × (length cpd ≡ length cpd₀)
-    × (cpd ≡ write cpd₀ 0 (2 * i) (λ k. getD (flatRows (cpdRows (given alpha beta regularised) degree)) k nan))
+    × (length cpd ≡ 2 * degree)
+    × Begun (entryAt (given alpha beta regularised) degree) nan (2 * i) cpd
     × (sum ≡ sumOf (take i (sums (cpdRows (given alpha beta regularised) degree))))
+    × ((k : ℕ) → i ≤ k → k < degree → getD cpd (degree + k) nan ≡ powi (oneᶠ ⊖ alpha) k)
 
 abbrev μ-loop : tie.MeasureT-loop
-μ-loop cpd₀ degree alpha beta regularised sum₀ i₀ cpd sum i = degree - i
+μ-loop cpd₀ degree alpha beta regularised powers₀ sum₀ i₀ cpd sum i = degree - i
+
+mul-powers : tie.Need-mul-powers Inv-loop μ-loop
+mul-powers c = omega arith
+
+sub-powers : tie.Need-sub-powers Inv-loop μ-loop
+sub-powers c = omega arith
+
+part-powers-start : tie.Need-part-powers-start Inv-loop μ-loop
+part-powers-start c = omega arith
+
+part-powers-end : tie.Need-part-powers-end Inv-loop μ-loop
+part-powers-end c = omega arith
+
+powers-requires : tie.Need-powers-requires Inv-loop μ-loop
+powers-requires c κs = search needs
 
 loop-holds : tie.Need-loop-holds Inv-loop μ-loop
 unfolding ofBits
 loop-holds c =
-    let a = c .before .args in
-    let s = given (a .alpha) (a .beta) (a .regularised) in
-    (omega arith, refl, write-none (a .cpd .now) 0 (λ k. getD (flatRows (cpdRows s (a .degree))) k nan), total-none (sums (cpdRows s (a .degree))))
+    let a = c .before .before .before .before .before .args in
+    let w = waiting (a .cpd .now) (c .before .before .powers .last .0) (a .degree) (oneᶠ ⊖ a .alpha) (c .before .before .before .before .before .pre .1) (c .before .before .powers .ensures) in
+    (omega arith, w .0, (λ k h. absurd (not-suc-le-zero h)), total-none (sums (cpdRows (given (a .alpha) (a .beta) (a .regularised)) (a .degree))), (λ k l h. w .1 k h))
+
+cast-row : tie.Need-cast-row Inv-loop μ-loop
+cast-row c = omega arith
+
+add-row-absent : tie.Need-add-row-absent Inv-loop μ-loop
+add-row-absent c = omega arith
+
+mul-row-absent : tie.Need-mul-row-absent Inv-loop μ-loop
+mul-row-absent c = omega arith
+
+slice-read-row-absent : tie.Need-slice-read-row-absent Inv-loop μ-loop
+slice-read-row-absent c = omega arith
 
 row-absent-requires : tie.Need-row-absent-requires Inv-loop μ-loop
-row-absent-requires c κs = omega arith
-
-cast-at : tie.Need-cast-at Inv-loop μ-loop
-cast-at c = omega arith
-
-mul-at : tie.Need-mul-at Inv-loop μ-loop
-mul-at c = omega arith
+row-absent-requires c κs = search needs
 
 mul-cpd : tie.Need-mul-cpd Inv-loop μ-loop
 mul-cpd c = omega arith
 
+mul-cpd-2 : tie.Need-mul-cpd-2 Inv-loop μ-loop
+mul-cpd-2 c = omega arith
+
 slice-write-cpd : tie.Need-slice-write-cpd Inv-loop μ-loop
 slice-write-cpd c = omega arith
+
+mul-cpd-3 : tie.Need-mul-cpd-3 Inv-loop μ-loop
+mul-cpd-3 c = omega arith
 
 add-cpd : tie.Need-add-cpd Inv-loop μ-loop
 add-cpd c = omega arith
 
-mul-cpd-2 : tie.Need-mul-cpd-2 Inv-loop μ-loop
-mul-cpd-2 c = omega arith
+mul-cpd-4 : tie.Need-mul-cpd-4 Inv-loop μ-loop
+mul-cpd-4 c = omega arith
 
 slice-write-cpd-2 : tie.Need-slice-write-cpd-2 Inv-loop μ-loop
 slice-write-cpd-2 c = simp length-set (omega arith)
@@ -66,16 +114,16 @@ add-i c = omega arith
 loop-less : tie.Need-loop-less Inv-loop μ-loop
 loop-less c = omega arith
 
--- a turn writes one row, and adds it
-written : (s : Settings) (d : ℕ) (l w : List Float) (i : ℕ) (x : Float) → i < d → w ≡ write l 0 (2 * i) (λ k. getD (flatRows (cpdRows s d)) k nan) → x ≡ absentAt s i → set (set w (2 * i) x) (2 * i + 1) (oneᶠ ⊖ x) ≡ write l 0 (2 * (i + 1)) (λ k. getD (flatRows (cpdRows s d)) k nan)
-written s d l w i x h e q =
-    let f : ℕ → Float = λ k. getD (flatRows (cpdRows s d)) k nan in
-    let n : 2 * i + 1 + 1 ≡ 2 * (i + 1) = omega arith in
-    let one = ap (λ (k : ℕ). set w k x) (sym (zero-add (2 * i))) ∙ write-next l w f 0 (2 * i) x e (q ∙ sym (even-at s d i h)) in
-    ap (λ (k : ℕ). set (set w (2 * i) x) k (oneᶠ ⊖ x)) (sym (zero-add (2 * i + 1)))
-    ∙ write-next l (set w (2 * i) x) f 0 (2 * i + 1) (oneᶠ ⊖ x) one
-    (ap (λ (y : Float). oneᶠ ⊖ y) q ∙ sym (odd-at s d i h))
-    ∙ ap (λ (k : ℕ). write l 0 k f) n
+-- a turn writes one row, over no power that still waits, and adds it
+written : (s : Settings) (d : ℕ) (w : List Float) (i : ℕ) (x : Float) → i < d → length w ≡ 2 * d → Begun (entryAt s d) nan (2 * i) w → x ≡ absentAt s i → Begun (entryAt s d) nan (2 * (i + 1)) (set (set w (2 * i) x) (2 * i + 1) (oneᶠ ⊖ x))
+written s d w i x h e b q =
+    let f = entryAt s d in
+    let one = begun-next f nan w (2 * i) x (omega arith) (q ∙ sym (even-at s d i h)) b in
+    let two = begun-next f nan (set w (2 * i) x) (2 * i + 1) (oneᶠ ⊖ x) (simp length-set (omega arith)) (ap (λ (y : Float). oneᶠ ⊖ y) q ∙ sym (odd-at s d i h)) one in
+    (λ k l. two k (omega arith))
+
+kept : (w : List Float) (i j : ℕ) (x y : Float) → 2 * i + 1 < j → getD (set (set w (2 * i) x) (2 * i + 1) y) j nan ≡ getD w j nan
+kept w i j x y h = getD-set-other (set w (2 * i) x) (2 * i + 1) j y nan (λ e. omega arith) ∙ getD-set-other w (2 * i) j x nan (λ e. omega arith)
 
 added : (s : Settings) (d i : ℕ) (sum x : Float) → i < d → sum ≡ sumOf (take i (sums (cpdRows s d))) → x ≡ absentAt s i → sum ⊕ (x ⊕ (oneᶠ ⊖ x)) ≡ sumOf (take (i + 1) (sums (cpdRows s d)))
 added s d i sum x h e q =
@@ -87,28 +135,30 @@ added s d i sum x h e q =
 loop-again : tie.Need-loop-again Inv-loop μ-loop
 unfolding ofBits
 loop-again c =
-    let b = c .before .before .loop in
-    let a = c .before .before .before .before .args in
+    let b = c .before .before .before .loop in
+    let a = c .before .before .before .before .before .before .before .before .before .args in
     let s = given (a .alpha) (a .beta) (a .regularised) in
-    let h = c .before .loop-test .taken in
-    let x = c .row-absent .result in (
+    let h = c .before .before .loop-test .taken in
+    let x = c .row-absent .result in
+    let e : x ≡ absentAt s (b .i) = c .row-absent .ensures (a .alpha) (b .inv .4 (b .i) (omega arith) h) in (
       omega arith,
       simp length-set (b .inv .1),
-      written s (a .degree) (a .cpd .now) (b .cpd) (b .i) x h (b .inv .2) (c .row-absent .ensures),
-      added s (a .degree) (b .i) (b .sum) x h (b .inv .3) (c .row-absent .ensures),
+      written s (a .degree) (b .cpd) (b .i) x h (b .inv .1) (b .inv .2) e,
+      added s (a .degree) (b .i) (b .sum) x h (b .inv .3) e,
+      (λ k l m. kept (b .cpd) (b .i) (a .degree + k) x (oneᶠ ⊖ x) (omega arith) ∙ b .inv .4 k (omega arith) m),
     )
 
 same-length : tie.Need-same-length Inv-loop μ-loop
-same-length c = c .before .loop .inv .1
+same-length c = c .before .loop .inv .1 ∙ sym (c .before .before .before .before .before .before .before .pre .1)
 
 returns : tie.Need-returns Inv-loop μ-loop
 unfolding sumOf
 returns c =
     let b = c .before .loop in
-    let a = c .before .before .before .args in
+    let a = c .before .before .before .before .before .before .before .args in
     let s = given (a .alpha) (a .beta) (a .regularised) in
     let e : b .i ≡ a .degree = omega arith in (
-      b .inv .2 ∙ ap (λ (k : ℕ). write (a .cpd .now) 0 (2 * k) (λ j. getD (flatRows (cpdRows s (a .degree))) j nan)) e ∙ write-whole nan (a .cpd .now) (flatRows (cpdRows s (a .degree))) (2 * a .degree) (c .before .before .before .pre .1) (length-rows s (a .degree)),
+      ext-getD nan (b .cpd) (flatRows (cpdRows s (a .degree))) (b .inv .1 ∙ sym (length-rows s (a .degree))) (λ k h. b .inv .2 k (omega (arith, b .inv .1))),
       b .inv .3 ∙ ap sumOf (take-all (b .i) (sums (cpdRows s (a .degree))) (omega (arith, length-sums s (a .degree)))),
     )
 
@@ -118,14 +168,23 @@ fill-rows-spec =
     (tie.spec
     Inv-loop
     μ-loop
+    mul-powers
+    sub-powers
+    part-powers-start
+    part-powers-end
+    powers-requires
     loop-holds
+    cast-row
+    add-row-absent
+    mul-row-absent
+    slice-read-row-absent
     row-absent-requires
-    cast-at
-    mul-at
     mul-cpd
-    slice-write-cpd
-    add-cpd
     mul-cpd-2
+    slice-write-cpd
+    mul-cpd-3
+    add-cpd
+    mul-cpd-4
     slice-write-cpd-2
     add-i
     loop-less

@@ -25,8 +25,8 @@ loop-again : tie.Need-loop-again Inv-loop μ-loop
 loop-again c =
     let l = c .before .before .loop in
     ⊎-elim
-    (λ w. rw (w .1) (power-odd (l .product) (l .square) (l .rest) (λ e. omega arith) (w .0 .taken) ∙ l .inv))
-    (λ w. rw (w .1) (power-even (l .product) (l .square) (l .rest) (λ e. omega arith) (w .0 .left) ∙ l .inv))
+    (λ w. rw (w .1) (power-odd (l .product) (l .square) (l .rest) (w .0 .taken) ∙ l .inv))
+    (λ w. rw (w .1) (power-even (l .product) (l .square) (l .rest) (w .0 .left) ∙ l .inv))
     (c .if1 .came)
 
 returns : tie.Need-returns Inv-loop μ-loop

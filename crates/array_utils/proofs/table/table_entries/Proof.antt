@@ -1,22 +1,20 @@
 -- `array_utils::table::table_entries` meets its contract: after i turns the first i entries are those of the table.
-use mathlib.Core.Path.{_≡_, sym, _∙_}
-use mathlib.Core.Logic.{⊎-elim}
+use mathlib.Core.Path.{_≡_}
 use mathlib.Core.Bool.{false}
-use mathlib.Core.List.{List}
-use Prim.Native.Nat.{ℕ, _+_, _-_, _≤_, _<_}
-use native.Mathlib.Nat.{eq-or-lt-of-le, not-suc-le-zero}
+use Prim.Native.Nat.{_-_, _≤_}
+use native.Mathlib.Nat.{not-suc-le-zero}
 use native.Mathlib.Omega.{arith}
 use lib.IntN.{pos}
-use lib.ListN.{length, length-set, length-replicate, getD, set}
-use lib.Seq.{getD-set-same, getD-set-other, ext-getD}
-use lib.Ieee.{Float, nan, fin, binary32, ofBits, inFloat}
+use lib.ListN.{length, length-set, length-replicate, getD}
+use lib.Ieee.{nan, fin, binary32, ofBits, inFloat}
 use Rattle.definition.specs.Floats.{_⊘_, ofNat, logTableEntry}
-use Rattle.array_utils.specs.LogTable.{number-small, entry-is, logTable, entry-at, table-length}
+use Rattle.array_utils.specs.Counts.{Begun, begun-next, begun-all}
+use Rattle.array_utils.specs.LogTable.{number-small, entry-is, logTable}
 use Rattle.array_utils.proofs.table.table_entries.Statement.{statement}
 use Rattle.array_utils.proofs.table.table_entries.Tie as tie
 
 abbrev Inv-loop : tie.InvT-loop
-Inv-loop numbers entries₀ i₀ entries i = (i ≤ 1025) × (length entries ≡ 1025) × ((k : ℕ) → k < i → getD entries k nan ≡ logTableEntry k)
+Inv-loop numbers entries₀ i₀ entries i = (i ≤ 1025) × (length entries ≡ 1025) × Begun logTableEntry nan i entries
 
 abbrev μ-loop : tie.MeasureT-loop
 μ-loop numbers entries₀ i₀ entries i = 1025 - i
@@ -46,29 +44,19 @@ add-i c = omega arith
 loop-less : tie.Need-loop-less Inv-loop μ-loop
 loop-less c = omega arith
 
--- what holds of the entries passed, and of the one stored
-stored : (l : List Float) (i : ℕ) (v : Float) → i < length l → v ≡ logTableEntry i → ((k : ℕ) → k < i → getD l k nan ≡ logTableEntry k) → (k : ℕ) → k < i + 1 → getD (set l i v) k nan ≡ logTableEntry k
-stored l i v h e f k q =
-    ⊎-elim (λ (d : k ≡ i). rw d (getD-set-same l i v nan h ∙ e))
-    (λ (g : k < i). getD-set-other l i k v nan (λ d. omega arith) ∙ f k g)
-    (eq-or-lt-of-le (below k i q))
-  where
-    below : (k i : ℕ) → k < i + 1 → k ≤ i
-    below k i q = omega arith
-
 loop-again : tie.Need-loop-again Inv-loop μ-loop
 unfolding ofBits
 loop-again c =
     let l = c .before .before .before in
     let i = l .loop .i in
     let v = entry-is (l .before .args .numbers .now) (l .before .pre) i (omega arith) in
-    (omega arith, simp length-set (l .loop .inv .1), stored (l .loop .entries) i (ofNat (getD (l .before .args .numbers .now) i 0) ⊘ fin false 1 (pos 24)) (omega (arith, l .loop .inv .1)) v (l .loop .inv .2))
+    (omega arith, simp length-set (l .loop .inv .1), begun-next logTableEntry nan (l .loop .entries) i (ofNat (getD (l .before .args .numbers .now) i 0) ⊘ fin false 1 (pos 24)) (omega (arith, l .loop .inv .1)) v (l .loop .inv .2))
 
 returns : tie.Need-returns Inv-loop μ-loop
+unfolding logTable
 returns c =
     let l = c .before .loop in
-    let n : 1025 ≤ l .i = omega arith in
-    ext-getD nan (l .entries) logTable (l .inv .1 ∙ sym table-length) (λ k h. l .inv .2 k (omega (arith, l .inv .1)) ∙ sym (entry-at k (omega (arith, l .inv .1))))
+    begun-all logTableEntry nan (l .entries) 1025 (l .inv .1) (λ k h. l .inv .2 k (omega arith))
 
 pub table-entries-spec : {M : Type 1} → statement M
 table-entries-spec =

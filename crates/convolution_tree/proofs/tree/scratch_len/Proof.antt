@@ -1,6 +1,6 @@
 -- `convolution_tree::scratch_len` meets its contract.
 use mathlib.Core.Path.{_≡_, ap, _∙_}
-use Prim.Native.Nat.{ℕ, _+_, _-_, _*_, _^_, _≤_}
+use Prim.Native.Nat.{ℕ, _+_, _-_, _*_, _^_}
 use native.Mathlib.Omega.{arith}
 use borrow.Author.Needs.{needs}
 use Rattle.definition.specs.ConvolutionTree.{logLength}
@@ -35,7 +35,7 @@ unfolding scratchLen
 returns c =
     let n = c .before .before .before .args .n in
     let e : (c .before .before .size-for .result .layers + 3) * c .before .before .size-for .result .leaves ≡ (logLength n + 3) * 2 ^ logLength n = product (c .before .before .size-for .result .layers) (c .before .before .size-for .result .leaves) n (c .before .before .size-for .ensures .0) (c .before .before .size-for .ensures .1) in
-    (ap (λ (x : ℕ). x - (2 * n + 1)) e, omega (arith, e, size-bound n 7 (c .before .before .before .pre)), (λ (h : n ≤ 64). omega (arith, e, size-bound n 6 h)))
+    (ap (λ (x : ℕ). x - (2 * n + 1)) e, omega (arith, e, size-bound n 7 (c .before .before .before .pre)))
 
 pub scratch-len-spec : {M : Type 1} → statement M
 scratch-len-spec =
