@@ -41,7 +41,7 @@ fn lower_all(out: &mut [f32])
 }
 
 // From a table that was filled before: two floats a row, an entry of the message for each.
-pub fn out_message_factor_from(out: &mut [f32], cpd: &[f32], message: VariableMessage)
+fn out_message_factor_from(out: &mut [f32], cpd: &[f32], message: VariableMessage)
     requires { ⌜ length (now cpd) ≡ 2 * length (now out) ⌝ }
     ensures { λ _. ⌜ now (out .exit) ≡ fromTable (now (cpd .entry)) (binary (message .absent) (message .present)) ⌝ }
 {
@@ -52,7 +52,7 @@ pub fn out_message_factor_from(out: &mut [f32], cpd: &[f32], message: VariableMe
 }
 
 // The lent cpd ends with the table, two floats a row.
-pub fn out_message_factor(
+fn out_message_factor_with(
     out: &mut [f32],
     cpd: &mut [f32],
     degree: u32,
@@ -66,4 +66,42 @@ pub fn out_message_factor(
 {
     node::fill_in_factor(cpd, degree, alpha, beta, regularised);
     out_message_factor_from(out, cpd, message);
+}
+
+// The table is local. An array is zeroed before it is used, so that few rows have a short one.
+pub fn out_message_factor(
+    out: &mut [f32],
+    degree: u32,
+    alpha: f32,
+    beta: f32,
+    regularised: bool,
+    message: VariableMessage,
+)
+    requires { ⌜ (degree ≤ 129) × (length (now out) ≡ degree) ⌝ }
+    ensures { λ _. ⌜ now (out .exit) ≡ outMessageFactor (given alpha beta regularised) degree (binary (message .absent) (message .present)) ⌝ }
+{
+    let floats = 2 * (degree as usize);
+    if degree <= 16 {
+        let mut cpd = [0.0; 32];
+        out_message_factor_with(
+            out,
+            &mut cpd[..floats],
+            degree,
+            alpha,
+            beta,
+            regularised,
+            message,
+        );
+    } else {
+        let mut cpd = [0.0; 258];
+        out_message_factor_with(
+            out,
+            &mut cpd[..floats],
+            degree,
+            alpha,
+            beta,
+            regularised,
+            message,
+        );
+    }
 }

@@ -10,7 +10,6 @@ mod variable;
 
 pub use belief::marginal;
 pub use factor::out_message_factor;
-pub use factor::out_message_factor_from;
 pub use opening::leave_one_out;
 pub use opening::log_total;
 pub use opening::opening_variable;

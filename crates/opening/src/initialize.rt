@@ -116,13 +116,10 @@ fn send_factor(
     let from = word(offsets, out);
     let to = word(offsets, out + 1);
     let message = get_message(row, word(offsets, inn));
-    let degree = to - from;
-    let twice = 2 * degree;
-    let mut cpd = [0.0f32; 258];
+    let degree = (to - from) as u32;
     out_message_factor(
         &mut row[from..to],
-        &mut cpd[0..twice],
-        degree as u32,
+        degree,
         alpha,
         beta,
         regularised,

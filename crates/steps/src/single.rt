@@ -85,17 +85,8 @@ fn factor_message(
     requires { ⌜ (degree ≤ 129) × (at + degree ≤ length (now w)) ⌝ }
     ensures { λ _. ⌜ now (w .exit) ≡ put (now (w .entry)) at (outMessageFactor (given alpha beta regularised) degree (binary (message .absent) (message .present))) ⌝ }
 {
-    let len = degree as usize;
-    let mut cpd = [0.0; 258];
-    out_message_factor(
-        &mut w[at..at + len],
-        &mut cpd[..2 * len],
-        degree,
-        alpha,
-        beta,
-        regularised,
-        message,
-    );
+    let end = at + degree as usize;
+    out_message_factor(&mut w[at..end], degree, alpha, beta, regularised, message);
 }
 
 // From a factor to its grade or its tree, by its input's message, that along direction e.

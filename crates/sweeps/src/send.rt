@@ -120,19 +120,8 @@ pub fn send_factor(
         present: w[held + 1],
     };
     let to = l + word(offsets, word(outs, first));
-    let n = degree as usize;
-    let end = to + n;
-    let rows = n + n;
-    let mut cpd = [0.0; 258];
-    out_message_factor(
-        &mut w[to..end],
-        &mut cpd[..rows],
-        degree,
-        alpha,
-        beta,
-        regularised,
-        message,
-    );
+    let end = to + degree as usize;
+    out_message_factor(&mut w[to..end], degree, alpha, beta, regularised, message);
     let back = word(offsets, word(outs, first + 1));
     copy_up(w, back, l + back, 2);
 }

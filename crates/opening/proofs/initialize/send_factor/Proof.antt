@@ -24,8 +24,8 @@ get-message-requires c κs = search needs
 sub-degree : tie.Need-sub-degree
 sub-degree c = search needs
 
-mul-twice : tie.Need-mul-twice
-mul-twice c = search needs
+cast-degree : tie.Need-cast-degree
+cast-degree c = search needs
 
 mul-out-message-factor : tie.Need-mul-out-message-factor
 mul-out-message-factor c = search needs
@@ -39,18 +39,6 @@ part-out-message-factor-start c = search needs
 part-out-message-factor-end : tie.Need-part-out-message-factor-end
 part-out-message-factor-end c = search needs
 
-sub-out-message-factor-2 : tie.Need-sub-out-message-factor-2
-sub-out-message-factor-2 c = search needs
-
-part-cpd-start : tie.Need-part-cpd-start
-part-cpd-start c = search needs
-
-part-cpd-end : tie.Need-part-cpd-end
-part-cpd-end c = search needs
-
-cast-out-message-factor : tie.Need-cast-out-message-factor
-cast-out-message-factor c = search needs
-
 out-message-factor-requires : tie.Need-out-message-factor-requires
 out-message-factor-requires c κs = search needs
 
@@ -59,13 +47,13 @@ same-length c = search needs
 
 returns : tie.Need-returns
 returns c =
-    let a = c .before .before .before .before .before .before .before .before .before .before .before .before .before .args in
-    let f = c .before .before .before .before .before .before .before .before .before .before .word in
-    let g = c .before .before .before .before .before .before .before .before .before .word2 in
-    let w = c .before .before .before .before .before .before .before .word3 in
-    let m = c .before .before .before .before .before .before .get-message in
-    let o = c .before .before .before .out-message-factor in
-    factor-put (a .row .now) (o .last .0) (given (a .alpha) (a .beta) (a .regularised)) (binary (m .result .absent) (m .result .present)) (f .result) (g .result) (w .result) _ _ _ (f .ensures) (g .ensures) (w .ensures) (m .ensures) (o .ensures .0)
+    let a = c .before .before .before .before .before .before .before .before .before .before .before .args in
+    let f = c .before .before .before .before .before .before .before .before .word in
+    let g = c .before .before .before .before .before .before .before .word2 in
+    let w = c .before .before .before .before .before .word3 in
+    let m = c .before .before .before .before .get-message in
+    let o = c .before .before .out-message-factor in
+    factor-put (a .row .now) (o .last .0) (given (a .alpha) (a .beta) (a .regularised)) (binary (m .result .absent) (m .result .present)) (f .result) (g .result) (w .result) _ _ _ (f .ensures) (g .ensures) (w .ensures) (m .ensures) (o .ensures)
 
 pub send-factor-spec : {M : Type 1} → statement M
 send-factor-spec =
@@ -77,15 +65,11 @@ send-factor-spec =
     word-requires-3
     get-message-requires
     sub-degree
-    mul-twice
+    cast-degree
     mul-out-message-factor
     sub-out-message-factor
     part-out-message-factor-start
     part-out-message-factor-end
-    sub-out-message-factor-2
-    part-cpd-start
-    part-cpd-end
-    cast-out-message-factor
     out-message-factor-requires
     same-length
     returns)

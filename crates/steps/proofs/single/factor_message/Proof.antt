@@ -3,7 +3,6 @@ use mathlib.Core.Path.{_≡_, sym, ap, _∙_}
 use Prim.Native.Nat.{_+_, _-_, _*_, _≤_}
 use native.Mathlib.Omega.{arith}
 use lib.ListN.{length}
-use lib.Seq.{length-take-le}
 use Rattle.definition.specs.Vectors.{binary}
 use Rattle.graph_laws.specs.Lengths.{length-outMessageFactor}
 use Rattle.list_laws.specs.Part.{length-region}
@@ -15,71 +14,48 @@ use Rattle.steps.proofs.single.factor_message.Tie as tie
 use Rattle.steps.proofs.single.factor_message.Reads as reads
 use Rattle.steps.proofs.single.factor_message.Lts as lts
 
--- src/single.rt:86:35
-add-out-message-factor : tie.Need-add-out-message-factor
-add-out-message-factor c = search needs
+add-end : tie.Need-add-end
+add-end c = search needs
 
--- src/single.rt:86:24
 mul-out-message-factor : tie.Need-mul-out-message-factor
 mul-out-message-factor c = search needs
 
--- src/single.rt:86:24
 sub-out-message-factor : tie.Need-sub-out-message-factor
 sub-out-message-factor c = search needs
 
--- src/single.rt:86:24
 part-out-message-factor-start : tie.Need-part-out-message-factor-start
 part-out-message-factor-start c = search needs
 
--- src/single.rt:86:24
 part-out-message-factor-end : tie.Need-part-out-message-factor-end
 part-out-message-factor-end c = search needs
 
--- src/single.rt:86:57
-mul-cpd : tie.Need-mul-cpd
-mul-cpd c = search needs
-
--- src/single.rt:86:46
-array-borrow-prefix-cpd : tie.Need-array-borrow-prefix-cpd
-array-borrow-prefix-cpd c = search needs
-
--- src/single.rt:86:46
-slice-aggregate-out-message-factor : tie.Need-slice-aggregate-out-message-factor
-slice-aggregate-out-message-factor c = sym (length-take-le _ _ (let z : 2 * c .before .before .before .args .degree ≤ 258 = omega (arith, c .before .before .before .pre .0) in z))
-
--- src/single.rt:86:5
 out-message-factor-requires : tie.Need-out-message-factor-requires
 out-message-factor-requires c κs =
-    let b = c .before .before .before in
+    let b = c .before .before in
     let a = b .args in
-    (b .pre .0, length-region (a .w .now) (a .at) (a .at + a .degree - a .at) (omega (arith, b .pre .1)) ∙ omega arith, length-take-le _ _ (let z : 2 * a .degree ≤ 258 = omega (arith, b .pre .0) in z))
+    (b .pre .0, length-region (a .w .now) (a .at) (a .at + a .degree - a .at) (omega (arith, b .pre .1)) ∙ omega arith)
 
--- src/single.rt:72:1
 same-length : tie.Need-same-length
 same-length c = search needs
 
--- src/single.rt:72:1
 returns : tie.Need-returns
 returns c =
-    let a = c .before .before .before .before .before .before .before .args in
-    let f = c .before .before .before .out-message-factor in
+    let a = c .before .before .before .before .before .args in
+    let f = c .before .before .out-message-factor in
     let n = a .at + a .degree - a .at in
     let s = given (a .alpha) (a .beta) (a .regularised) in
-    let l : length (f .last .0) ≡ n = ap length (f .ensures .0) ∙ length-outMessageFactor s (a .degree) (binary (a .message .absent) (a .message .present)) ∙ omega arith in
-    put-part (a .w .now) (f .last .0) (a .at) n l ∙ ap (put (a .w .now) (a .at)) (f .ensures .0)
+    let l : length (f .last .0) ≡ n = ap length (f .ensures) ∙ length-outMessageFactor s (a .degree) (binary (a .message .absent) (a .message .present)) ∙ omega arith in
+    put-part (a .w .now) (f .last .0) (a .at) n l ∙ ap (put (a .w .now) (a .at)) (f .ensures)
 
 pub factor-message-spec : {M : Type 1} → statement M
 factor-message-spec =
     tie.close
     (tie.spec
-    add-out-message-factor
+    add-end
     mul-out-message-factor
     sub-out-message-factor
     part-out-message-factor-start
     part-out-message-factor-end
-    mul-cpd
-    array-borrow-prefix-cpd
-    slice-aggregate-out-message-factor
     out-message-factor-requires
     same-length
     returns)

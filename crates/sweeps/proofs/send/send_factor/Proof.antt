@@ -33,20 +33,20 @@ add-word c = search needs
 word-requires : tie.Need-word-requires
 word-requires c κs = search needs
 
+mul-t16 : tie.Need-mul-t16
+mul-t16 c = search needs
+
+slice-read-t23 : tie.Need-slice-read-t23
+slice-read-t23 c = search needs
+
+add-t15 : tie.Need-add-t15
+add-t15 c = search needs
+
 mul-t19 : tie.Need-mul-t19
 mul-t19 c = search needs
 
-slice-read-t26 : tie.Need-slice-read-t26
-slice-read-t26 c = search needs
-
-add-t18 : tie.Need-add-t18
-add-t18 c = search needs
-
-mul-t22 : tie.Need-mul-t22
-mul-t22 c = search needs
-
-slice-read-t28 : tie.Need-slice-read-t28
-slice-read-t28 c = search needs
+slice-read-t25 : tie.Need-slice-read-t25
+slice-read-t25 c = search needs
 
 word-requires-2 : tie.Need-word-requires-2
 word-requires-2 c κs = search needs
@@ -57,14 +57,11 @@ word-requires-3 c κs = search needs
 add-to : tie.Need-add-to
 add-to c = search needs
 
-cast-n : tie.Need-cast-n
-cast-n c = search needs
+cast-end : tie.Need-cast-end
+cast-end c = search needs
 
 add-end : tie.Need-add-end
 add-end c = search needs
-
-add-rows : tie.Need-add-rows
-add-rows c = search needs
 
 mul-out-message-factor : tie.Need-mul-out-message-factor
 mul-out-message-factor c = search needs
@@ -82,19 +79,13 @@ part-out-message-factor-end c =
     let e = place-is (a .outs .now) (a .offsets .now) (a .first) (c .before .word2 .result) (c .word3 .result) (c .before .word2 .ensures .0) (c .word3 .ensures .0) in
     omega (arith, e, b .pre .fits, b .pre .roomy)
 
-array-borrow-prefix-cpd : tie.Need-array-borrow-prefix-cpd
-array-borrow-prefix-cpd c = search needs
-
-slice-aggregate-out-message-factor : tie.Need-slice-aggregate-out-message-factor
-slice-aggregate-out-message-factor c = sym (length-take-le _ _ (omega arith))
-
 out-message-factor-requires : tie.Need-out-message-factor-requires
 out-message-factor-requires c κs =
-    let b = c .before .before .before .before .before .before .before .before .before .before .before .before in
+    let b = c .before .before .before .before .before .before .before .before .before .before .before in
     let a = b .args in
-    let q = c .before .before in
+    let q = c .before in
     let e = place-is (a .outs .now) (a .offsets .now) (a .first) (q .before .word2 .result) (q .word3 .result) (q .before .word2 .ensures .0) (q .word3 .ensures .0) in
-    (omega (arith, b .pre .few), simp (length-take, length-drop) (omega (arith, e, b .pre .fits, b .pre .roomy)), simp length-take (omega (arith, b .pre .few)))
+    (omega (arith, b .pre .few), simp (length-take, length-drop) (omega (arith, e, b .pre .fits, b .pre .roomy)))
 
 add-word-2 : tie.Need-add-word-2
 add-word-2 c = search needs
@@ -110,7 +101,7 @@ add-copy-up c = search needs
 
 copy-up-requires : tie.Need-copy-up-requires
 copy-up-requires c κs =
-    let b = c .before .before .before .before .before .before .before .before .before .before .before .before .before .before .before .before .before .before .before in
+    let b = c .before .before .before .before .before .before .before .before .before .before .before .before .before .before .before .before .before in
     let a = b .args in
     let q = c .before in
     let e = place-is (a .outs .now) (a .offsets .now) (a .first + 1) (q .before .word4 .result) (q .word5 .result) (q .before .word4 .ensures .0) (q .word5 .ensures .0) in
@@ -123,13 +114,13 @@ returns : tie.Need-returns
 returns c =
     let m = c .before .before in
     let q = m .before .before in
-    let o = q .before .before .before .before .before in
-    let u = o .before .before .before in
+    let o = q .before .before .before .before in
+    let u = o .before .before in
     let b = u .before .before .before .before .before .before .before .before .before .before in
     let a = b .args in
     let k = u .before .before .before .before in
     factor-is (a .alpha) (a .beta) (a .regularised) (a .outs .now) (a .offsets .now) (a .l) (a .first) (a .w .now) (b .pre) (u .word3 .result) (q .word5 .result) (k .word .result) (o .out-message-factor .last .0) (m .copy-up .last .0)
-    (place-is (a .outs .now) (a .offsets .now) (a .first) (u .before .word2 .result) (u .word3 .result) (u .before .word2 .ensures .0) (u .word3 .ensures .0)) (place-is (a .outs .now) (a .offsets .now) (a .first + 1) (q .before .word4 .result) (q .word5 .result) (q .before .word4 .ensures .0) (q .word5 .ensures .0)) (k .word .ensures .0) (o .out-message-factor .ensures .0) (m .copy-up .ensures)
+    (place-is (a .outs .now) (a .offsets .now) (a .first) (u .before .word2 .result) (u .word3 .result) (u .before .word2 .ensures .0) (u .word3 .ensures .0)) (place-is (a .outs .now) (a .offsets .now) (a .first + 1) (q .before .word4 .result) (q .word5 .result) (q .before .word4 .ensures .0) (q .word5 .ensures .0)) (k .word .ensures .0) (o .out-message-factor .ensures) (m .copy-up .ensures)
 
 pub send-factor-spec : {M : Type 1} → statement M
 send-factor-spec =
@@ -143,23 +134,20 @@ send-factor-spec =
     sub-degree
     add-word
     word-requires
+    mul-t16
+    slice-read-t23
+    add-t15
     mul-t19
-    slice-read-t26
-    add-t18
-    mul-t22
-    slice-read-t28
+    slice-read-t25
     word-requires-2
     word-requires-3
     add-to
-    cast-n
+    cast-end
     add-end
-    add-rows
     mul-out-message-factor
     sub-out-message-factor
     part-out-message-factor-start
     part-out-message-factor-end
-    array-borrow-prefix-cpd
-    slice-aggregate-out-message-factor
     out-message-factor-requires
     add-word-2
     word-requires-4
