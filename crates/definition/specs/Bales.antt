@@ -44,9 +44,12 @@ shared n = record { grades = n; markers = record { absent = halfᶠ; present = h
 abbrev unmarked : ℕ → Bale
 unmarked g = record { grades = g; markers = []; pairs = [] }
 
--- as much of each buffer as 129 grades on a marker ask for
+-- as much of each buffer as 129 grades on a marker ask for, and so many floats of work
+abbrev lent : ℕ → Buffers
+lent n = record { workFloats = n; workNumbers = 20672; beliefNumbers = 129; beliefFloats = 258; endingNumbers = 516; endingFloats = 129 }
+
 abbrev ample : Buffers
-ample = record { workFloats = 20672; workNumbers = 20672; beliefNumbers = 129; beliefFloats = 258; endingNumbers = 516; endingFloats = 129 }
+ample = lent 20672
 
 -- how many nodes and edges each component has
 abbrev sizes : Bale → List (List ℕ)
@@ -79,11 +82,12 @@ pub record Bales : Type 0 where
   pub ln-two : ln twoᶠ ≡ ln2
   pub exp-zero : exp zeroᶠ ≡ oneᶠ
   pub exp-minus-88 : exp (fin true 11 (pos 3)) ≡ zeroᶠ
-  -- the ends of two checks
+  -- the ends of three checks
   pub alpha-least : verdict (settings 1 1024 false) ample (shared 1) ≡ accepted
   pub alpha-less : verdict (settings 1 2048 false) ample (shared 1) ≡ refused 3 0
   pub most-grades : verdict (settings 1 2 false) ample (shared 128) ≡ accepted
   pub one-grade-more : verdict (settings 1 2 false) ample (shared 129) ≡ refused 8 0
+  pub one-float-less : verdict (settings 1 2 false) (lent 20671) (shared 129) ≡ refused 2 0
 
 pub bales : Bales
 unfolding round add sub mul div neg lt le eq isNan ofInt toUnsigned toBits size ofBits maxᶠ abs avoidUnderflow clamp logTableNumber logTableEntry lnOfBits ln expSeries expReduced exp powiFrom powi sumOf productFrom productOf normalize avoidUnderflowAll logNormalize sumLogBlocks sumLogsBatched cpdAbsent cpdAbsentRegularised cpdRows cpdTable convolve countLayer messageUp likelihoodsBelow treeLayers logLength firstLayer treeMessages builtGraph walk components componentsOf subgraph subgraphOf edgeAt directionTo directionsTo firstsIncoming directionFrom messageNodesFrom messageGraph messageGraphOf setMessages copyNode copyNodes initialBelief outMessageLog outMessageVariable outMessageFactor outMessageFactorTo outMessageBy outMessage absLogRatio pairResidual vectorResidual residual equalMessages messageChange changeExceeds needsRebuild treeOutMessages outMessagesTree outMessages initialMessage updateKind openingInput openingFactor logTotal leaveOneOut openingVariable openingGrade initializeMessages opening computeUpdate sweep initialPriority beginLoop exceeds higher highestFrom highestPriority updateSingle neighbourNumbers updateTree updateMessage otherOutgoing addPending pushPriorities scheduledStep applyEvent stateAfter openingAndSweeps events loop run logMarginal marginal beliefsAmong partAnswer answersOf answersFrom answer endingNumber endingResidual answeredBeliefs beliefNumbers beliefFloats endingNumbers endingFloats markersOf pairsOf baleOf outside tooMany workNeeded tooSmall badTolerance badEvidence unknownPair equalPairs lowestPlaceFrom lowestPlace isAmong repeatedPairs tooManyGrades orRefused verdict words wordKind bits fieldWidth cleanWord mayFollow badWordFrom badWord wordsOfKind firstOfKind settingsOf evidenceOf pairOf baleOfWords decimalBefore decimal hexDigit hexBefore hex line partFields beliefLine beliefLines partLines baleLine refusal verdictLines fileLines listing ascii
@@ -106,4 +110,5 @@ bales =
       alpha-less = refl;
       most-grades = refl;
       one-grade-more = refl;
+      one-float-less = refl;
     }

@@ -2,11 +2,12 @@
 use mathlib.Core.Path.{_≡_, refl, sym, ap, _∙_}
 use mathlib.Core.Bool.{Bool, true, false, cond}
 use mathlib.Core.List.{List, [], _∷_, map}
-use Prim.Native.Nat.{ℕ, _+_, _*_, _<_}
+use Prim.Native.Nat.{ℕ, _+_, _*_, _≤_, _<_}
 use native.Mathlib.Nat.{zero-add}
 use lib.ListN.{length, getD, set}
 use lib.Ieee.{Float, nan, lt}
 use Rattle.list_laws.specs.Write.{write, write-next}
+use Rattle.list_laws.specs.Part.{region, length-region}
 use Rattle.definition.specs.Floats.{_⊕_, _⊗_, oneᶠ, avoidUnderflow, clamp}
 use Rattle.definition.specs.Vectors.{Message, entry, binary, normalize, avoidUnderflowAll}
 use Rattle.definition.specs.Settings.{Settings}
@@ -72,3 +73,7 @@ pub from-steps :
     l ≡ column (weighted x y) cpd → n ≡ normalize l → o ≡ map lowered n → r ≡ avoidUnderflowAll o → r ≡ fromTable cpd (binary x y)
 unfolding fromTable
 from-steps cpd l n o r x y e f g h = h ∙ ap avoidUnderflowAll g ∙ clamp-all n ∙ ap (map clamp) (f ∙ ap normalize e)
+
+-- what is written into a part of a row has as many entries as the part
+pub factor-part : (s : Settings) (m : Message) (w r : List Float) (from n k : ℕ) → from + n ≤ length w → n ≡ k → r ≡ outMessageFactor s (length (region w from n)) m → r ≡ outMessageFactor s k m
+factor-part s m w r from n k h e p = p ∙ ap (λ (j : ℕ). outMessageFactor s j m) (length-region w from n h ∙ e)

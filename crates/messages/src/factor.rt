@@ -55,53 +55,35 @@ fn out_message_factor_from(out: &mut [f32], cpd: &[f32], message: VariableMessag
 fn out_message_factor_with(
     out: &mut [f32],
     cpd: &mut [f32],
-    degree: u32,
     alpha: f32,
     beta: f32,
     regularised: bool,
     message: VariableMessage,
 )
-    requires { ⌜ (degree ≤ 129) × (length (now out) ≡ degree) × (length (now cpd) ≡ 2 * degree) ⌝ }
-    ensures { λ _. ⌜ (now (out .exit) ≡ outMessageFactor (given alpha beta regularised) degree (binary (message .absent) (message .present))) × (now (cpd .exit) ≡ flatRows (cpdTable (given alpha beta regularised) degree)) ⌝ }
+    requires { ⌜ (length (now out) ≤ 129) × (length (now cpd) ≡ 2 * length (now out)) ⌝ }
+    ensures { λ _. ⌜ (now (out .exit) ≡ outMessageFactor (given alpha beta regularised) (length (now (out .entry))) (binary (message .absent) (message .present))) × (now (cpd .exit) ≡ flatRows (cpdTable (given alpha beta regularised) (length (now (out .entry))))) ⌝ }
 {
-    node::fill_in_factor(cpd, degree, alpha, beta, regularised);
+    node::fill_in_factor(cpd, out.len() as u32, alpha, beta, regularised);
     out_message_factor_from(out, cpd, message);
 }
 
-// The table is local. An array is zeroed before it is used, so that few rows have a short one.
+// As many entries as there is room for. The table is a local array, which is zeroed first: a short one where it serves.
 pub fn out_message_factor(
     out: &mut [f32],
-    degree: u32,
     alpha: f32,
     beta: f32,
     regularised: bool,
     message: VariableMessage,
 )
-    requires { ⌜ (degree ≤ 129) × (length (now out) ≡ degree) ⌝ }
-    ensures { λ _. ⌜ now (out .exit) ≡ outMessageFactor (given alpha beta regularised) degree (binary (message .absent) (message .present)) ⌝ }
+    requires { ⌜ length (now out) ≤ 129 ⌝ }
+    ensures { λ _. ⌜ now (out .exit) ≡ outMessageFactor (given alpha beta regularised) (length (now (out .entry))) (binary (message .absent) (message .present)) ⌝ }
 {
-    let floats = 2 * (degree as usize);
-    if degree <= 16 {
+    let floats = 2 * out.len();
+    if floats <= 32 {
         let mut cpd = [0.0; 32];
-        out_message_factor_with(
-            out,
-            &mut cpd[..floats],
-            degree,
-            alpha,
-            beta,
-            regularised,
-            message,
-        );
+        out_message_factor_with(out, &mut cpd[..floats], alpha, beta, regularised, message);
     } else {
         let mut cpd = [0.0; 258];
-        out_message_factor_with(
-            out,
-            &mut cpd[..floats],
-            degree,
-            alpha,
-            beta,
-            regularised,
-            message,
-        );
+        out_message_factor_with(out, &mut cpd[..floats], alpha, beta, regularised, message);
     }
 }

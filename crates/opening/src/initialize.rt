@@ -116,15 +116,7 @@ fn send_factor(
     let from = word(offsets, out);
     let to = word(offsets, out + 1);
     let message = get_message(row, word(offsets, inn));
-    let degree = (to - from) as u32;
-    out_message_factor(
-        &mut row[from..to],
-        degree,
-        alpha,
-        beta,
-        regularised,
-        message,
-    );
+    out_message_factor(&mut row[from..to], alpha, beta, regularised, message);
 }
 
 // A factor sends to its first neighbour, unless that is its input.

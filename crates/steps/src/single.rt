@@ -86,7 +86,7 @@ fn factor_message(
     ensures { λ _. ⌜ now (w .exit) ≡ put (now (w .entry)) at (outMessageFactor (given alpha beta regularised) degree (binary (message .absent) (message .present))) ⌝ }
 {
     let end = at + degree as usize;
-    out_message_factor(&mut w[at..end], degree, alpha, beta, regularised, message);
+    out_message_factor(&mut w[at..end], alpha, beta, regularised, message);
 }
 
 // From a factor to its grade or its tree, by its input's message, that along direction e.

@@ -121,7 +121,7 @@ pub fn send_factor(
     };
     let to = l + word(offsets, word(outs, first));
     let end = to + degree as usize;
-    out_message_factor(&mut w[to..end], degree, alpha, beta, regularised, message);
+    out_message_factor(&mut w[to..end], alpha, beta, regularised, message);
     let back = word(offsets, word(outs, first + 1));
     copy_up(w, back, l + back, 2);
 }

@@ -16,7 +16,7 @@ slice-aggregate-out-message-factor-with : tie.Need-slice-aggregate-out-message-f
 slice-aggregate-out-message-factor-with c = sym (length-take-le _ _ (omega arith))
 
 out-message-factor-with-requires : tie.Need-out-message-factor-with-requires
-out-message-factor-with-requires c κs = let p = c .before .before .before .before .pre in (p .0, p .1, length-take-le _ _ (omega arith))
+out-message-factor-with-requires c κs = let p = c .before .before .before .before .pre in (p, length-take-le _ _ (omega arith))
 
 array-borrow-prefix-cpd-2 : tie.Need-array-borrow-prefix-cpd-2
 array-borrow-prefix-cpd-2 c = omega arith
@@ -25,7 +25,7 @@ slice-aggregate-out-message-factor-with-2 : tie.Need-slice-aggregate-out-message
 slice-aggregate-out-message-factor-with-2 c = sym (length-take-le _ _ (omega arith))
 
 out-message-factor-with-requires-2 : tie.Need-out-message-factor-with-requires-2
-out-message-factor-with-requires-2 c κs = let p = c .before .before .before .before .pre in (p .0, p .1, length-take-le _ _ (omega arith))
+out-message-factor-with-requires-2 c κs = let p = c .before .before .before .before .pre in (p, length-take-le _ _ (omega arith))
 
 same-length : tie.Need-same-length
 same-length c = search needs

@@ -1,5 +1,9 @@
 -- `opening::initialize::send_factor` meets its contract.
+use mathlib.Core.Path.{refl}
+use Prim.Native.Nat.{_-_}
+use native.Mathlib.Omega.{arith}
 use Rattle.node.specs.Rows.{given}
+use Rattle.messages.specs.Factor.{factor-part}
 use Rattle.definition.specs.Vectors.{binary}
 use Rattle.opening.specs.OpenFactors.{factor-put}
 use borrow.Author.Needs.{needs}
@@ -21,12 +25,6 @@ word-requires-3 c κs = search needs
 get-message-requires : tie.Need-get-message-requires
 get-message-requires c κs = search needs
 
-sub-degree : tie.Need-sub-degree
-sub-degree c = search needs
-
-cast-degree : tie.Need-cast-degree
-cast-degree c = search needs
-
 mul-out-message-factor : tie.Need-mul-out-message-factor
 mul-out-message-factor c = search needs
 
@@ -47,13 +45,17 @@ same-length c = search needs
 
 returns : tie.Need-returns
 returns c =
-    let a = c .before .before .before .before .before .before .before .before .before .before .before .args in
+    let b = c .before .before .before .before .before .before .before .before .before .before .before in
+    let a = b .args in
     let f = c .before .before .before .before .before .before .before .before .word in
     let g = c .before .before .before .before .before .before .before .word2 in
     let w = c .before .before .before .before .before .word3 in
     let m = c .before .before .before .before .get-message in
     let o = c .before .before .out-message-factor in
-    factor-put (a .row .now) (o .last .0) (given (a .alpha) (a .beta) (a .regularised)) (binary (m .result .absent) (m .result .present)) (f .result) (g .result) (w .result) _ _ _ (f .ensures) (g .ensures) (w .ensures) (m .ensures) (o .ensures)
+    let s = given (a .alpha) (a .beta) (a .regularised) in
+    let n = g .result - f .result in
+    let p = factor-part s (binary (m .result .absent) (m .result .present)) (a .row .now) (o .last .0) (f .result) n n (omega (arith, b .pre .ordered, b .pre .inside, f .ensures, g .ensures)) refl (o .ensures) in
+    factor-put (a .row .now) (o .last .0) s (binary (m .result .absent) (m .result .present)) (f .result) (g .result) (w .result) _ _ _ (f .ensures) (g .ensures) (w .ensures) (m .ensures) p
 
 pub send-factor-spec : {M : Type 1} → statement M
 send-factor-spec =
@@ -64,8 +66,6 @@ send-factor-spec =
     word-requires-2
     word-requires-3
     get-message-requires
-    sub-degree
-    cast-degree
     mul-out-message-factor
     sub-out-message-factor
     part-out-message-factor-start

@@ -1,9 +1,11 @@
 -- `sweeps::send::send_factor` meets its contract.
-use mathlib.Core.Path.{sym}
-use Prim.Native.Nat.{_+_}
+use Prim.Native.Nat.{_+_, _-_}
 use native.Mathlib.Omega.{arith}
-use lib.ListN.{length-take, length-drop}
-use lib.Seq.{length-take-le}
+use lib.ListN.{length-take, length-drop, getD}
+use lib.Ieee.{nan}
+use Rattle.definition.specs.Vectors.{binary}
+use Rattle.node.specs.Rows.{given}
+use Rattle.messages.specs.Factor.{factor-part}
 use Rattle.sweeps.specs.Sweep.{place-is, factor-is}
 use borrow.Author.Needs.{needs}
 use Rattle.sweeps.proofs.send.send_factor.Statement.{statement}
@@ -85,7 +87,7 @@ out-message-factor-requires c κs =
     let a = b .args in
     let q = c .before in
     let e = place-is (a .outs .now) (a .offsets .now) (a .first) (q .before .word2 .result) (q .word3 .result) (q .before .word2 .ensures .0) (q .word3 .ensures .0) in
-    (omega (arith, b .pre .few), simp (length-take, length-drop) (omega (arith, e, b .pre .fits, b .pre .roomy)))
+    simp (length-take, length-drop) (omega (arith, e, b .pre .few, b .pre .fits, b .pre .roomy))
 
 add-word-2 : tie.Need-add-word-2
 add-word-2 c = search needs
@@ -119,8 +121,13 @@ returns c =
     let b = u .before .before .before .before .before .before .before .before .before .before in
     let a = b .args in
     let k = u .before .before .before .before in
-    factor-is (a .alpha) (a .beta) (a .regularised) (a .outs .now) (a .offsets .now) (a .l) (a .first) (a .w .now) (b .pre) (u .word3 .result) (q .word5 .result) (k .word .result) (o .out-message-factor .last .0) (m .copy-up .last .0)
-    (place-is (a .outs .now) (a .offsets .now) (a .first) (u .before .word2 .result) (u .word3 .result) (u .before .word2 .ensures .0) (u .word3 .ensures .0)) (place-is (a .outs .now) (a .offsets .now) (a .first + 1) (q .before .word4 .result) (q .word5 .result) (q .before .word4 .ensures .0) (q .word5 .ensures .0)) (k .word .ensures .0) (o .out-message-factor .ensures) (m .copy-up .ensures)
+    let s = given (a .alpha) (a .beta) (a .regularised) in
+    let d = getD (a .offsets .now) (a .first + 1) 0 - getD (a .offsets .now) (a .first) 0 in
+    let to = a .l + u .word3 .result in
+    let e = place-is (a .outs .now) (a .offsets .now) (a .first) (u .before .word2 .result) (u .word3 .result) (u .before .word2 .ensures .0) (u .word3 .ensures .0) in
+    let f = place-is (a .outs .now) (a .offsets .now) (a .first + 1) (q .before .word4 .result) (q .word5 .result) (q .before .word4 .ensures .0) (q .word5 .ensures .0) in
+    let p = factor-part s (binary (getD (a .w .now) (k .word .result) nan) (getD (a .w .now) (k .word .result + 1) nan)) (a .w .now) (o .out-message-factor .last .0) to (to + d - to) d (omega (arith, e, b .pre .fits, b .pre .roomy)) (omega arith) (o .out-message-factor .ensures) in
+    factor-is (a .alpha) (a .beta) (a .regularised) (a .outs .now) (a .offsets .now) (a .l) (a .first) (a .w .now) (b .pre) (u .word3 .result) (q .word5 .result) (k .word .result) (o .out-message-factor .last .0) (m .copy-up .last .0) e f (k .word .ensures .0) p (m .copy-up .ensures)
 
 pub send-factor-spec : {M : Type 1} → statement M
 send-factor-spec =
