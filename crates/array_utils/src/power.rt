@@ -37,7 +37,7 @@ pub fn powers(out: &mut [f32], base: f32)
         out[i] = out[i - bit] * square;
         i += 1;
         if i - bit == bit {
-            square = square * square;
+            square *= square;
             bit = i;
         }
     }
