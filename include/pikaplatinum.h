@@ -1,7 +1,8 @@
 /* How likely each packaging grade is, from the tracer marks read in a bale.
  *
  * A bale is a graph: grades (numbered from 0), markers (two evidence floats each, absent then present) and pairs (grade, then
- * marker: this grade carries this mark). Zero-lookahead belief propagation answers, part by part, a belief for each grade.
+ * marker: this grade carries this mark; up to 128 grades may carry one). Zero-lookahead belief propagation answers, part by part, a
+ * belief for each grade.
  *
  * The caller owns all memory. Assumed of the caller, and checked by nothing: each pointer is valid for as many entries as the
  * length beside it says (a null pointer only with length 0), is aligned for its type, no two lent buffers overlap each other or

@@ -146,9 +146,10 @@ pub fn limits_call(random: &mut Random) -> Call {
         pairs: MOST_PAIRS,
         grades_of_a_marker: MOST_GRADES_OF_A_MARKER,
     };
+    let few = random.pick(&[64, 128]);
     let graph = match random.below(8) {
         0 | 1 => random_pairs(random, full),
-        2 => random_pairs(random, Room { markers: 128, ..full }),
+        2 => random_pairs(random, Room { markers: few, ..full }),
         3 => chain(2 * MOST_GRADES),
         4 => cycle(MOST_GRADES),
         5 => complete(MOST_GRADES_OF_A_MARKER, MOST_PAIRS / MOST_GRADES_OF_A_MARKER),

@@ -12,7 +12,7 @@ use Rattle.float_laws.specs.Table.{every, at}
 use Rattle.float_laws.specs.Whole.{whole-over}
 use Rattle.definition.specs.Floats.{_⊘_, ofNat, logTableNumber, logTableEntry}
 use Rattle.definition.specs.Lists.{range}
-use Rattle.array_utils.specs.Counts.{count-at, length-count}
+use Rattle.array_utils.specs.Counts.{count-at}
 
 -- ---- the rule: entry i is the whole part of the series; it is at most 2 ^ 24, so that f32 holds it
 unfoldable pub ruled : ℕ → ℕ → Bool
@@ -52,7 +52,3 @@ logTable = map logTableEntry (range 0 1025)
 pub entry-at : (k : ℕ) → k < 1025 → getD logTable k nan ≡ logTableEntry k
 unfolding logTable
 entry-at k h = count-at logTableEntry nan 1025 k h
-
-pub table-length : length logTable ≡ 1025
-unfolding logTable
-table-length = length-count logTableEntry 0 1025

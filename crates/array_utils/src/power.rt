@@ -1,4 +1,4 @@
-// Powers by the bits of the exponent, from the lowest: one, or all up to one.
+// Powers by the bits of the exponent, from the lowest: a single one, or all from the 0th on.
 ghost use mathlib.Core.Path.{_≡_};
 ghost use mathlib.Core.List.{map};
 ghost use lib.ListN.{length};

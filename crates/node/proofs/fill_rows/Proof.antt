@@ -1,6 +1,6 @@
 -- `node::fill_rows` meets its contract: after i turns the first 2 * i floats are written, the powers from the i-th on still wait, and the sum is that of the first
 -- i rows.
-use mathlib.Core.Path.{_≡_, refl, sym, ap, _∙_}
+use mathlib.Core.Path.{_≡_, sym, ap, _∙_}
 use mathlib.Core.List.{List, _++_, map}
 use Prim.Native.Nat.{ℕ, _+_, _*_, _-_, _≤_, _<_}
 use native.Mathlib.Nat.{not-suc-le-zero}
