@@ -1,12 +1,12 @@
--- A list made of a run of numbers: its entries, its length, and how a loop makes it.
+-- A list made of a run of numbers: its entries, its length, and that a loop writes it.
 use mathlib.Core.Path.{_≡_, refl, sym, ap, _∙_}
-use mathlib.Core.Logic.{⊎-elim}
 use mathlib.Core.List.{List, map}
-use Prim.Native.Nat.{ℕ, zero, suc, _+_, _≤_, _<_}
-use native.Mathlib.Nat.{add-zero, zero-add, suc-add, add-suc, not-suc-le-zero, le-of-suc-le-suc, eq-or-lt-of-le}
+use Prim.Native.Nat.{ℕ, zero, suc, _+_, _<_}
+use native.Mathlib.Nat.{add-zero, zero-add, suc-add, add-suc, not-suc-le-zero, le-of-suc-le-suc}
 use native.Mathlib.Omega.{arith}
-use lib.ListN.{length, getD, set}
-use lib.Seq.{getD-set-same, getD-set-other, ext-getD}
+use lib.ListN.{length, getD}
+use Rattle.list_laws.specs.Write.{write, write-ext}
+use Rattle.list_laws.specs.Whole.{whole-written}
 use Rattle.definition.specs.Lists.{range}
 
 module _ {A : Type 0} (f : ℕ → A) (d : A) where
@@ -23,18 +23,9 @@ module _ {A : Type 0} (f : ℕ → A) where
   length-count i zero = refl
   length-count i (suc n) = ap suc (length-count (suc i) n)
 
--- ---- made from its start on: its first entries stand
+-- ---- what is written from the start of a list to its end
 module _ {A : Type 0} (f : ℕ → A) (d : A) where
-  abbrev pub Begun : ℕ → List A → Type 0
-  Begun i l = (k : ℕ) → k < i → getD l k d ≡ f k
-
-  pub begun-next : (l : List A) (i : ℕ) (v : A) → i < length l → v ≡ f i → Begun i l → Begun (i + 1) (set l i v)
-  begun-next l i v h e b k q =
-      ⊎-elim (λ (s : k ≡ i). rw s (getD-set-same l i v d h ∙ e))
-      (λ (g : k < i). getD-set-other l i k v d (λ s. omega arith) ∙ b k g)
-      (eq-or-lt-of-le (let m : k ≤ i = omega arith in m))
-
-  pub begun-all : (l : List A) (n : ℕ) → length l ≡ n → Begun n l → l ≡ map f (range 0 n)
-  begun-all l n e b =
-      ext-getD d l (map f (range 0 n)) (e ∙ sym (length-count f 0 n))
-      (λ k h. b k (omega arith) ∙ sym (count-at f d n k (omega arith)))
+  pub count-written : (l w : List A) (i n : ℕ) → w ≡ write l 0 i f → i ≡ n → length l ≡ n → w ≡ map f (range 0 n)
+  count-written l w i n e q h =
+      let m = map f (range 0 n) in
+      whole-written d l w m i n (e ∙ write-ext l 0 i f (λ k. getD m k d) (λ k b. sym (count-at f d n k (omega arith)))) q h (length-count f 0 n)

@@ -3,10 +3,10 @@ use mathlib.Core.Path.{_≡_, refl, sym, ap, _∙_}
 use mathlib.Core.Bool.{Bool, true, false, cond}
 use mathlib.Core.List.{List, [], _∷_, map}
 use Prim.Native.Nat.{ℕ, _+_, _*_, _≤_, _<_}
-use native.Mathlib.Nat.{zero-add}
 use lib.ListN.{length, getD, set}
 use lib.Ieee.{Float, nan, lt}
-use Rattle.list_laws.specs.Write.{write, write-next}
+use Rattle.list_laws.specs.Write.{write}
+use Rattle.list_laws.specs.Whole.{start-next}
 use Rattle.list_laws.specs.Part.{region, length-region}
 use Rattle.definition.specs.Floats.{_⊕_, _⊗_, oneᶠ, avoidUnderflow, clamp}
 use Rattle.definition.specs.Vectors.{Message, entry, binary, normalize, avoidUnderflowAll}
@@ -65,8 +65,7 @@ pub weigh-turn :
     (x y : Float) (cpd l w : List Float) (i : ℕ) →
     2 * i + 1 < length cpd → w ≡ write l 0 i (λ k. getD (column (weighted x y) cpd) k nan) → set w i (weighted x y (getD cpd (2 * i) nan) (getD cpd (2 * i + 1) nan)) ≡ write l 0 (i + 1) (λ k. getD (column (weighted x y) cpd) k nan)
 weigh-turn x y cpd l w i h e =
-    ap (λ (k : ℕ). set w k (weighted x y (getD cpd (2 * i) nan) (getD cpd (2 * i + 1) nan))) (sym (zero-add i))
-    ∙ write-next l w (λ k. getD (column (weighted x y) cpd) k nan) 0 i _ e (sym (column-at (weighted x y) cpd i h))
+    start-next l w (λ k. getD (column (weighted x y) cpd) k nan) i _ e (sym (column-at (weighted x y) cpd i h))
 
 pub from-steps :
     (cpd l n o r : List Float) (x y : Float) →

@@ -2,12 +2,12 @@
 use mathlib.Core.Path.{_≡_, refl, sym, ap, _∙_}
 use mathlib.Core.List.{List, [], _∷_, map}
 use Prim.Native.Nat.{ℕ, zero, suc, _+_, _*_, _/_, _<_}
-use native.Mathlib.Nat.{zero-add, not-suc-le-zero, le-of-suc-le-suc}
+use native.Mathlib.Nat.{not-suc-le-zero, le-of-suc-le-suc}
 use native.Mathlib.Omega.{arith}
 use lib.ListN.{length, take, drop, getD, set, length-map}
 use lib.Ieee.{Float, nan}
-use Rattle.list_laws.specs.Write.{write, write-next}
-use Rattle.list_laws.specs.Whole.{write-whole}
+use Rattle.list_laws.specs.Write.{write}
+use Rattle.list_laws.specs.Whole.{start-pair, whole-written}
 use Rattle.definition.specs.Vectors.{Message, entry, binary}
 use Rattle.definition.specs.Directions.{Direction, messageAt}
 use Rattle.graph_laws.specs.Flat.{flat}
@@ -101,21 +101,15 @@ module _ (f : Message → Message) (two : (m : Message) → length (f m) ≡ 2) 
       i < length rows / 2 → Sent l i w → m ≡ messageAt i (pairs rows) → binary x y ≡ f m → Sent l (i + 1) (set (set w (2 * i) x) (2 * i + 1) y)
   sent-turn l w i x y m h e q r =
       let g : ℕ → Float = λ k. getD (flat (map f (pairs rows))) k nan in
-      let n : 2 * i + 1 + 1 ≡ 2 * (i + 1) = omega arith in
       let k : i < length (pairs rows) = omega (arith, length-pairs rows) in
       let j : i < length (map f (pairs rows)) = omega (arith, length-map (pairs rows) f) in
       let both = r ∙ ap f q ∙ sym (map-at f (pairs rows) i k) ∙ sym (flat-at (map f (pairs rows)) (map-pairs (pairs rows)) i j) in
-      let one = ap (λ (k : ℕ). set w k x) (sym (zero-add (2 * i))) ∙ write-next l w g 0 (2 * i) x e (ap (entry 0) both) in
-      ap (λ (k : ℕ). set (set w (2 * i) x) k y) (sym (zero-add (2 * i + 1)))
-      ∙ write-next l (set w (2 * i) x) g 0 (2 * i + 1) y one (ap (entry 1) both)
-      ∙ ap (λ (k : ℕ). write l 0 k g) n
+      start-pair l w g i x y e (ap (entry 0) both) (ap (entry 1) both)
 
   pub sent-all : (l w : List Float) (i : ℕ) → length l ≡ 2 * (length rows / 2) → i ≡ length rows / 2 → Sent l i w → w ≡ flat (map f (pairs rows))
   sent-all l w i h e s =
       let n : length (flat (map f (pairs rows))) ≡ 2 * (length rows / 2) = length-flat (map f (pairs rows)) (map-pairs (pairs rows)) ∙ ap (λ (k : ℕ). 2 * k) (length-map (pairs rows) f ∙ length-pairs rows) in
-      s
-      ∙ ap (λ (k : ℕ). write l 0 (2 * k) (λ j. getD (flat (map f (pairs rows))) j nan)) e
-      ∙ write-whole nan l (flat (map f (pairs rows))) (2 * (length rows / 2)) h n
+      whole-written nan l w (flat (map f (pairs rows))) (2 * i) (2 * (length rows / 2)) s (ap (λ (k : ℕ). 2 * k) e) h n
 
 -- no message, and one
 pub none-left : (l : List Float) → length l ≡ 0 → l ≡ []

@@ -2,11 +2,11 @@
 use mathlib.Core.Path.{_≡_, refl, sym, ap, _∙_}
 use mathlib.Core.Bool.{Bool, true, false, cond}
 use mathlib.Core.List.{List, [], _∷_, map, map-map}
-use Prim.Native.Nat.{ℕ, suc, _+_, _*_, _<_}
+use Prim.Native.Nat.{ℕ, suc, max, _+_, _*_, _<_}
 use native.Mathlib.Omega.{arith}
 use lib.ListN.{length, getD, length-map}
 use lib.Ieee.{Float, nan}
-use Rattle.definition.specs.Floats.{_⊕_, _⊖_, _⊘_, zeroᶠ, oneᶠ, avoidUnderflow}
+use Rattle.definition.specs.Floats.{_⊕_, _⊖_, _⊗_, _⊘_, zeroᶠ, oneᶠ, avoidUnderflow, ofNat, powi}
 use Rattle.definition.specs.Vectors.{sumFrom, avoidUnderflowAll}
 use Rattle.definition.specs.Lists.{range}
 use Rattle.definition.specs.Settings.{Settings}
@@ -31,6 +31,17 @@ table-given s d = refl
 -- the absent entry of a row
 abbrev pub absentAt : Settings → ℕ → Float
 absentAt s i = cond (s .regularised) (cpdAbsentRegularised s i) (cpdAbsent s i)
+
+-- ... by its power of 1 - alpha: cpd_0, and from that cpd_regularized_0
+abbrev pub regularisedOf : Float → Float → ℕ → Float
+regularisedOf cpd beta i = powi cpd i ⊗ (oneᶠ ⊖ beta) ⊘ ofNat (max i 1)
+
+abbrev pub absentOf : Float → Float → Bool → ℕ → Float
+absentOf power beta regularised i = let cpd = power ⊗ (oneᶠ ⊖ beta) in cond regularised (regularisedOf cpd beta i) cpd
+
+pub absent-of : (alpha beta power : Float) (b : Bool) (i : ℕ) → power ≡ powi (oneᶠ ⊖ alpha) i → absentOf power beta b i ≡ absentAt (given alpha beta b) i
+unfolding cpdAbsent cpdAbsentRegularised
+absent-of alpha beta power b i e = ap (λ (p : Float). absentOf p beta b i) e
 
 rows-at : (s : Settings) (d : ℕ) → map (λ (i : ℕ). cpdRow (absentAt s i)) (range 0 d) ≡ cpdRows s d
 unfolding cpdRows

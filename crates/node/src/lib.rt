@@ -1,12 +1,9 @@
 // `fill_in_factor` of src/node.rs: the noisy-OR table of a marker, in a row of floats that the caller lends.
 ghost use mathlib.Core.Path.{_≡_};
-ghost use mathlib.Core.Bool.{true};
 ghost use Prim.Native.Nat.{max, _*_, _≤_};
 ghost use lib.ListN.{length};
-ghost use lib.Ieee.{Float};
-ghost use Rattle.definition.specs.Floats.{_⊖_, oneᶠ, powi};
-ghost use Rattle.definition.specs.NoisyOr.{cpdAbsent, cpdAbsentRegularised, cpdRows, cpdTable};
-ghost use Rattle.node.specs.Rows.{flatRows, given, absentAt, rowTotal};
+ghost use Rattle.definition.specs.NoisyOr.{cpdRows, cpdTable};
+ghost use Rattle.node.specs.Rows.{flatRows, given, regularisedOf, absentOf, rowTotal};
 
 // An entry of the Rust's divide_array: max(i, 1).
 fn divide_entry(i: u32) -> u32
@@ -18,7 +15,7 @@ fn divide_entry(i: u32) -> u32
 // The Rust's cpd_regularized_0, of its cpd_0: cpd_0^i * (1 - beta) / max(i, 1).
 fn cpd_regularised_absent(cpd: f32, beta: f32, i: u32) -> f32
     requires { ⌜ i ≤ 129 ⌝ }
-    ensures { λ r. ⌜ ((alpha : Float) → cpd ≡ cpdAbsent (given alpha beta true) i → r ≡ cpdAbsentRegularised (given alpha beta true) i) ⌝ }
+    ensures { λ r. ⌜ r ≡ regularisedOf cpd beta i ⌝ }
 {
     array_utils::powi(cpd, i) * (1.0 - beta) / (divide_entry(i) as f32)
 }
@@ -26,7 +23,7 @@ fn cpd_regularised_absent(cpd: f32, beta: f32, i: u32) -> f32
 // Of the power (1 - alpha)^i, which gives the Rust's cpd_0: (1 - alpha)^i * (1 - beta).
 fn row_absent(power: f32, beta: f32, regularised: bool, i: u32) -> f32
     requires { ⌜ i ≤ 129 ⌝ }
-    ensures { λ r. ⌜ ((alpha : Float) → power ≡ powi (oneᶠ ⊖ alpha) i → r ≡ absentAt (given alpha beta regularised) i) ⌝ }
+    ensures { λ r. ⌜ r ≡ absentOf power beta regularised i ⌝ }
 {
     let cpd = power * (1.0 - beta);
     if regularised {

@@ -1,31 +1,33 @@
--- `node::fill_rows` meets its contract: after i turns the first 2 * i floats are written, the powers from the i-th on still wait, and the sum is that of the first
--- i rows.
+-- `node::fill_rows` meets its contract: after i turns the first i rows are written, over no power that still waits, and the sum is theirs.
 use mathlib.Core.Path.{_≡_, sym, ap, _∙_}
 use mathlib.Core.List.{List, _++_, map}
 use Prim.Native.Nat.{ℕ, _+_, _*_, _-_, _≤_, _<_}
-use native.Mathlib.Nat.{not-suc-le-zero}
 use native.Mathlib.Numerals.{add-one}
 use native.Mathlib.Omega.{arith}
 use borrow.Author.Needs.{needs}
-use lib.ListN.{length, length-set, getD, set, take, drop}
-use lib.Seq.{take-all, getD-set-other, ext-getD}
+use lib.ListN.{length, length-set, getD, take, drop}
+use lib.Seq.{take-all}
 use lib.Ieee.{Float, nan, ofBits}
 use Rattle.list_laws.specs.Part.{length-region}
 use Rattle.list_laws.specs.Put.{put-part, length-put, put-in}
+use Rattle.list_laws.specs.Write.{write, write-none, kept-above}
+use Rattle.list_laws.specs.Whole.{start-pair, whole-written}
 use Rattle.definition.specs.Floats.{_⊕_, _⊖_, oneᶠ, powi}
 use Rattle.definition.specs.Vectors.{sumOf}
 use Rattle.definition.specs.Lists.{range}
 use Rattle.definition.specs.Settings.{Settings}
 use Rattle.definition.specs.NoisyOr.{cpdRows}
-use Rattle.array_utils.specs.Counts.{count-at, length-count, Begun, begun-next}
+use Rattle.array_utils.specs.Counts.{count-at, length-count}
 use Rattle.array_utils.specs.VectorLaws.{total-none, total-step}
-use Rattle.node.specs.Rows.{flatRows, given, absentAt, sums, even-at, odd-at, sum-at, length-rows, length-sums}
+use Rattle.node.specs.Rows.{flatRows, given, absentAt, absent-of, sums, even-at, odd-at, sum-at, length-rows, length-sums}
 use Rattle.node.proofs.fill_rows.Statement.{statement}
 use Rattle.node.proofs.fill_rows.Tie as tie
 
 -- the powers, in the second half
-waiting : (l s : List Float) (d : ℕ) (base : Float) → length l ≡ 2 * d → s ≡ map (powi base) (range 0 (length (take (length l - d) (drop d l)))) →
-    let w = take d l ++ (s ++ drop (length l - d) (drop d l)) in (length w ≡ 2 * d) × ((k : ℕ) → k < d → getD w (d + k) nan ≡ powi base k)
+abbrev Waiting : ℕ → Float → List Float → Type 0
+Waiting d base w = (length w ≡ 2 * d) × ((k : ℕ) → k < d → getD w (d + k) nan ≡ powi base k)
+
+waiting : (l s : List Float) (d : ℕ) (base : Float) → length l ≡ 2 * d → s ≡ map (powi base) (range 0 (length (take (length l - d) (drop d l)))) → Waiting d base (take d l ++ (s ++ drop (length l - d) (drop d l)))
 waiting l s d base e p =
     let n : length (take (length l - d) (drop d l)) ≡ d = length-region l d (length l - d) (omega arith) ∙ omega arith in
     let q : s ≡ map (powi base) (range 0 d) = p ∙ ap (λ (m : ℕ). map (powi base) (range 0 m)) n in
@@ -43,9 +45,9 @@ abbrev Inv-loop : tie.InvT-loop
 Inv-loop cpd₀ degree alpha beta regularised powers₀ sum₀ i₀ cpd sum i =
     (i ≤ degree)
     × (length cpd ≡ 2 * degree)
-    × Begun (entryAt (given alpha beta regularised) degree) nan (2 * i) cpd
+    × (cpd ≡ write cpd₀ 0 (2 * i) (entryAt (given alpha beta regularised) degree))
     × (sum ≡ sumOf (take i (sums (cpdRows (given alpha beta regularised) degree))))
-    × ((k : ℕ) → i ≤ k → k < degree → getD cpd (degree + k) nan ≡ powi (oneᶠ ⊖ alpha) k)
+    × Waiting degree (oneᶠ ⊖ alpha) cpd₀
 
 abbrev μ-loop : tie.MeasureT-loop
 μ-loop cpd₀ degree alpha beta regularised powers₀ sum₀ i₀ cpd sum i = degree - i
@@ -70,7 +72,7 @@ unfolding ofBits
 loop-holds c =
     let a = c .before .before .before .before .before .args in
     let w = waiting (a .cpd .now) (c .before .before .powers .last .0) (a .degree) (oneᶠ ⊖ a .alpha) (c .before .before .before .before .before .pre .1) (c .before .before .powers .ensures) in
-    (omega arith, w .0, (λ k h. absurd (not-suc-le-zero h)), total-none (sums (cpdRows (given (a .alpha) (a .beta) (a .regularised)) (a .degree))), (λ k l h. w .1 k h))
+    (omega arith, w .0, write-none _ _ _, total-none (sums (cpdRows (given (a .alpha) (a .beta) (a .regularised)) (a .degree))), w)
 
 cast-row : tie.Need-cast-row Inv-loop μ-loop
 cast-row c = omega arith
@@ -114,17 +116,6 @@ add-i c = omega arith
 loop-less : tie.Need-loop-less Inv-loop μ-loop
 loop-less c = omega arith
 
--- a turn writes one row, over no power that still waits, and adds it
-written : (s : Settings) (d : ℕ) (w : List Float) (i : ℕ) (x : Float) → i < d → length w ≡ 2 * d → Begun (entryAt s d) nan (2 * i) w → x ≡ absentAt s i → Begun (entryAt s d) nan (2 * (i + 1)) (set (set w (2 * i) x) (2 * i + 1) (oneᶠ ⊖ x))
-written s d w i x h e b q =
-    let f = entryAt s d in
-    let one = begun-next f nan w (2 * i) x (omega arith) (q ∙ sym (even-at s d i h)) b in
-    let two = begun-next f nan (set w (2 * i) x) (2 * i + 1) (oneᶠ ⊖ x) (simp length-set (omega arith)) (ap (λ (y : Float). oneᶠ ⊖ y) q ∙ sym (odd-at s d i h)) one in
-    (λ k l. two k (omega arith))
-
-kept : (w : List Float) (i j : ℕ) (x y : Float) → 2 * i + 1 < j → getD (set (set w (2 * i) x) (2 * i + 1) y) j nan ≡ getD w j nan
-kept w i j x y h = getD-set-other (set w (2 * i) x) (2 * i + 1) j y nan (λ e. omega arith) ∙ getD-set-other w (2 * i) j x nan (λ e. omega arith)
-
 added : (s : Settings) (d i : ℕ) (sum x : Float) → i < d → sum ≡ sumOf (take i (sums (cpdRows s d))) → x ≡ absentAt s i → sum ⊕ (x ⊕ (oneᶠ ⊖ x)) ≡ sumOf (take (i + 1) (sums (cpdRows s d)))
 added s d i sum x h e q =
     ap (λ (y : Float). y ⊕ (x ⊕ (oneᶠ ⊖ x))) e
@@ -140,12 +131,13 @@ loop-again c =
     let s = given (a .alpha) (a .beta) (a .regularised) in
     let h = c .before .before .loop-test .taken in
     let x = c .row-absent .result in
-    let e : x ≡ absentAt s (b .i) = c .row-absent .ensures (a .alpha) (b .inv .4 (b .i) (omega arith) h) in (
+    let p = kept-above _ (b .cpd) _ 0 (2 * b .i) (a .degree + b .i) nan (b .inv .2) (omega arith) ∙ b .inv .4 .1 (b .i) h in
+    let e : x ≡ absentAt s (b .i) = c .row-absent .ensures ∙ absent-of (a .alpha) (a .beta) _ (a .regularised) (b .i) p in (
       omega arith,
       simp length-set (b .inv .1),
-      written s (a .degree) (b .cpd) (b .i) x h (b .inv .1) (b .inv .2) e,
+      start-pair _ (b .cpd) (entryAt s (a .degree)) (b .i) x (oneᶠ ⊖ x) (b .inv .2) (e ∙ sym (even-at s (a .degree) (b .i) h)) (ap (λ (y : Float). oneᶠ ⊖ y) e ∙ sym (odd-at s (a .degree) (b .i) h)),
       added s (a .degree) (b .i) (b .sum) x h (b .inv .3) e,
-      (λ k l m. kept (b .cpd) (b .i) (a .degree + k) x (oneᶠ ⊖ x) (omega arith) ∙ b .inv .4 k (omega arith) m),
+      b .inv .4,
     )
 
 same-length : tie.Need-same-length Inv-loop μ-loop
@@ -158,7 +150,7 @@ returns c =
     let a = c .before .before .before .before .before .before .before .args in
     let s = given (a .alpha) (a .beta) (a .regularised) in
     let e : b .i ≡ a .degree = omega arith in (
-      ext-getD nan (b .cpd) (flatRows (cpdRows s (a .degree))) (b .inv .1 ∙ sym (length-rows s (a .degree))) (λ k h. b .inv .2 k (omega (arith, b .inv .1))),
+      whole-written nan _ (b .cpd) (flatRows (cpdRows s (a .degree))) (2 * b .i) (2 * a .degree) (b .inv .2) (ap (λ (k : ℕ). 2 * k) e) (b .inv .4 .0) (length-rows s (a .degree)),
       b .inv .3 ∙ ap sumOf (take-all (b .i) (sums (cpdRows s (a .degree))) (omega (arith, length-sums s (a .degree)))),
     )
 

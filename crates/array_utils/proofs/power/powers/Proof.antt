@@ -2,13 +2,14 @@
 use mathlib.Core.Path.{_≡_, refl, ap, subst, _∙_}
 use mathlib.Core.List.{List, [], _∷_, map}
 use Prim.Native.Nat.{ℕ, _+_, _-_, _≤_, _<_}
-use native.Mathlib.Nat.{not-suc-le-zero}
 use native.Mathlib.Omega.{arith}
 use lib.ListN.{length, length-set, getD, set}
 use lib.Ieee.{Float, nan, binary32, ofBits}
+use Rattle.list_laws.specs.Write.{write, write-none}
+use Rattle.list_laws.specs.Whole.{start-next, start-at}
 use Rattle.definition.specs.Floats.{_⊗_, oneᶠ, powiFrom, powi}
 use Rattle.definition.specs.Lists.{range}
-use Rattle.array_utils.specs.Counts.{Begun, begun-next, begun-all}
+use Rattle.array_utils.specs.Counts.{count-written}
 use Rattle.array_utils.specs.PowerLaws.{BitSquare, bit-first, bit-next, bit-power}
 use Rattle.array_utils.proofs.power.powers.Statement.{statement}
 use Rattle.array_utils.proofs.power.powers.Tie as tie
@@ -20,7 +21,7 @@ Inv-loop out₀ base square₀ bit₀ i₀ out square bit i =
     × (i < bit + bit)
     × (i ≤ length out)
     × (length out ≡ length out₀)
-    × Begun (powi base) nan i out
+    × (out ≡ write out₀ 0 i (powi base))
 
 abbrev μ-loop : tie.MeasureT-loop
 μ-loop out₀ base square₀ bit₀ i₀ out square bit i = length out - i
@@ -28,6 +29,11 @@ abbrev μ-loop : tie.MeasureT-loop
 -- writing the first keeps the length
 first-kept : (l : List Float) → length (set l 0 (ofBits binary32 1065353216)) ≡ length l
 first-kept l = length-set l 0 (ofBits binary32 1065353216)
+
+-- ... and written again it stays
+first-again : (l : List Float) (x : Float) → set l 0 x ≡ set (set l 0 x) 0 x
+first-again [] x = refl
+first-again (y ∷ ys) x = refl
 
 no-entries : (l : List Float) (base : Float) → length l ≡ 0 → l ≡ map (powi base) (range 0 (length l))
 no-entries [] base e = refl
@@ -44,7 +50,7 @@ unfolding ofBits powi powiFrom
 loop-holds c =
     let l = c .before .args .out .now in
     let h : 0 < length l = omega arith in
-    (bit-first (c .before .args .base), omega arith, omega arith, simp length-set h, refl, begun-next (powi (c .before .args .base)) nan l 0 oneᶠ h refl (λ k q. absurd (not-suc-le-zero q)))
+    (bit-first (c .before .args .base), omega arith, omega arith, simp length-set h, refl, first-again l oneᶠ ∙ start-next (set l 0 oneᶠ) (set l 0 oneᶠ) (powi (c .before .args .base)) 0 oneᶠ (write-none _ _ _) refl)
 
 sub-out : tie.Need-sub-out Inv-loop μ-loop
 sub-out c = omega arith
@@ -68,9 +74,9 @@ sub-if2 : tie.Need-sub-if2 Inv-loop μ-loop
 sub-if2 c = omega arith
 
 -- a turn
-stored : {base square : Float} {bit i : ℕ} (out : List Float) → BitSquare base bit square → bit ≤ i → i < bit + bit → i < length out → Begun (powi base) nan i out → Begun (powi base) nan (i + 1) (set out i (getD out (i - bit) nan ⊗ square))
-stored {base} {square} {bit} {i} out B l m h b =
-    begun-next (powi base) nan out i (getD out (i - bit) nan ⊗ square) h (ap (λ (x : Float). x ⊗ square) (b (i - bit) (omega arith)) ∙ bit-power B (i - bit) i (omega arith) (omega arith)) b
+stored : {base square : Float} {bit i : ℕ} (l out : List Float) → BitSquare base bit square → bit ≤ i → i < bit + bit → i ≤ length l → out ≡ write l 0 i (powi base) → set out i (getD out (i - bit) nan ⊗ square) ≡ write l 0 (i + 1) (powi base)
+stored {base} {square} {bit} {i} l out B least most h e =
+    start-next l out (powi base) i (getD out (i - bit) nan ⊗ square) e (ap (λ (x : Float). x ⊗ square) (start-at l out (powi base) i (i - bit) nan e (omega arith) h) ∙ bit-power B (i - bit) i (omega arith) (omega arith))
 
 loop-less : tie.Need-loop-less Inv-loop μ-loop
 loop-less c = simp length-set (omega arith)
@@ -85,7 +91,7 @@ loop-again c =
       omega arith,
       simp length-set (omega arith),
       length-set (l .out) (l .i) _ ∙ v .4,
-      stored (l .out) (v .0) (v .1) (v .2) (c .before .before .loop-test .taken) (v .5),
+      stored _ (l .out) (v .0) (v .1) (v .2) (omega (arith, v .3, v .4)) (v .5),
     )
 
 loop-less-2 : tie.Need-loop-less-2 Inv-loop μ-loop
@@ -95,7 +101,7 @@ loop-again-2 : tie.Need-loop-again-2 Inv-loop μ-loop
 loop-again-2 c =
     let l = c .before .before .before .loop in
     let v = l .inv in
-    (v .0, omega arith, omega arith, simp length-set (omega arith), length-set (l .out) (l .i) _ ∙ v .4, stored (l .out) (v .0) (v .1) (v .2) (c .before .before .loop-test .taken) (v .5))
+    (v .0, omega arith, omega arith, simp length-set (omega arith), length-set (l .out) (l .i) _ ∙ v .4, stored _ (l .out) (v .0) (v .1) (v .2) (omega (arith, v .3, v .4)) (v .5))
 
 same-length : tie.Need-same-length Inv-loop μ-loop
 same-length c = c .before .loop .inv .4 ∙ first-kept (c .before .before .before .args .out .now)
@@ -104,9 +110,8 @@ returns-2 : tie.Need-returns-2 Inv-loop μ-loop
 returns-2 c =
     let l = c .before .loop in
     let a = c .before .before .before .args in
-    let e : length (l .out) ≡ length (a .out .now) = l .inv .4 ∙ first-kept (a .out .now) in
-    let all : length (a .out .now) ≤ l .i = omega arith in
-    begun-all (powi (a .base)) nan (l .out) (length (a .out .now)) e (λ k h. l .inv .5 k (omega arith))
+    let e = first-kept (a .out .now) in
+    count-written (powi (a .base)) nan _ (l .out) (l .i) (length (a .out .now)) (l .inv .5) (omega (arith, l .inv .4, e)) e
 
 pub powers-spec : {M : Type 1} → statement M
 powers-spec =

@@ -1,13 +1,12 @@
 -- `convolution_tree::hand_over` meets its contract: after k turns the first k entries are handed over.
 use mathlib.Core.Path.{_≡_, refl, sym, ap, _∙_}
-use Prim.Native.Nat.{ℕ, _+_, _-_, _≤_}
-use native.Mathlib.Nat.{zero-add}
+use Prim.Native.Nat.{_+_, _-_, _≤_}
 use native.Mathlib.Omega.{arith}
-use lib.ListN.{length, getD, set}
+use lib.ListN.{length, getD}
 use mathlib.Core.List.{List}
 use lib.Ieee.{Float, ofBits, nan}
-use Rattle.list_laws.specs.Write.{write, write-none, write-next, length-write}
-use Rattle.list_laws.specs.Whole.{write-whole}
+use Rattle.list_laws.specs.Write.{write, write-none, length-write}
+use Rattle.list_laws.specs.Whole.{start-next, write-whole}
 use Rattle.definition.specs.Floats.{zeroᶠ}
 use Rattle.list_laws.specs.InPlace.{mapped, mapped-length, mapped-get, mapped-turn, mapped-all}
 use Rattle.convolution_tree.specs.Zeros.{map-zero}
@@ -59,8 +58,7 @@ loop-again c =
     let a = c .before .before .before .args in
     let z : Float → Float = λ x. zeroᶠ in
     let e = mapped-turn z (a .from .now) (l .from) (l .k) nan zeroᶠ (omega arith) (l .inv .2) (l .inv .4) refl in
-    let f = write-next (a .to .now) (l .to) (λ i. getD (a .from .now) i nan) 0 (l .k) (getD (l .from) (l .k) nan) (l .inv .3) (ap (λ (x : List Float). getD x (l .k) nan) (l .inv .4) ∙ mapped-get z (l .k) (a .from .now) nan) in
-    let g : set (l .to) (l .k) (getD (l .from) (l .k) nan) ≡ write (a .to .now) 0 (l .k + 1) (λ i. getD (a .from .now) i nan) = ap (λ (i : ℕ). set (l .to) i (getD (l .from) (l .k) nan)) (sym (zero-add (l .k))) ∙ f in
+    let g = start-next (a .to .now) (l .to) (λ i. getD (a .from .now) i nan) (l .k) (getD (l .from) (l .k) nan) (l .inv .3) (ap (λ (x : List Float). getD x (l .k) nan) (l .inv .4) ∙ mapped-get z (l .k) (a .from .now) nan) in
     (omega arith, ap length g ∙ length-write (a .to .now) 0 (l .k + 1) (λ i. getD (a .from .now) i nan), ap length e ∙ mapped-length z (l .k + 1) (a .from .now), g, e)
 
 same-length : tie.Need-same-length Inv-loop μ-loop

@@ -1,11 +1,11 @@
 -- `convolution_tree::copy_down` meets its contract: after k turns the first k floats are copied.
-use mathlib.Core.Path.{_≡_, refl, sym, ap, _∙_}
+use mathlib.Core.Path.{_≡_, refl, ap, _∙_}
 use Prim.Native.Nat.{ℕ, _+_, _-_, _≤_}
-use native.Mathlib.Nat.{zero-add}
 use native.Mathlib.Omega.{arith}
 use lib.ListN.{length, getD, set}
 use lib.Ieee.{Float, nan}
-use Rattle.list_laws.specs.Write.{write, write-none, write-next, kept-above, length-write}
+use Rattle.list_laws.specs.Write.{write, write-none, kept-above, length-write}
+use Rattle.list_laws.specs.Whole.{start-next}
 use Rattle.convolution_tree.specs.Exchange.{copied}
 use Rattle.convolution_tree.proofs.tree.copy_down.Statement.{statement}
 use Rattle.convolution_tree.proofs.tree.copy_down.Tie as tie
@@ -47,7 +47,7 @@ loop-again c =
     let f : ℕ → Float = λ i. getD (a .w .now) (a .at + i) nan in
     let x = getD (s .w) (a .at + s .k) nan in
     let e : set (s .w) (s .k) x ≡ write (a .w .now) 0 (s .k + 1) f =
-    ap (λ (i : ℕ). set (s .w) i x) (sym (zero-add (s .k))) ∙ write-next (a .w .now) (s .w) f 0 (s .k) x (s .inv .2) (kept-above (a .w .now) (s .w) f 0 (s .k) (a .at + s .k) nan (s .inv .2) (omega arith)) in
+    start-next (a .w .now) (s .w) f (s .k) x (s .inv .2) (kept-above (a .w .now) (s .w) f 0 (s .k) (a .at + s .k) nan (s .inv .2) (omega arith)) in
     (omega arith, ap length e ∙ length-write (a .w .now) 0 (s .k + 1) f, e)
 
 same-length : tie.Need-same-length Inv-loop μ-loop

@@ -1,11 +1,11 @@
 -- `messages::factor::weigh_rows` meets its contract: after i turns the first i entries are written.
-use mathlib.Core.Path.{_≡_, refl, ap, _∙_}
-use Prim.Native.Nat.{ℕ, _+_, _*_, _-_, _≤_, _<_}
+use mathlib.Core.Path.{_≡_, refl}
+use Prim.Native.Nat.{_+_, _*_, _-_, _≤_, _<_}
 use native.Mathlib.Omega.{arith}
 use lib.ListN.{length, length-set, getD}
 use lib.Ieee.{nan}
 use Rattle.list_laws.specs.Write.{write, write-none}
-use Rattle.list_laws.specs.Whole.{write-whole}
+use Rattle.list_laws.specs.Whole.{whole-written}
 use Rattle.array_utils.specs.Columns.{column, length-column}
 use Rattle.messages.specs.Factor.{weighted, weigh-turn}
 use Rattle.messages.proofs.factor.weigh_rows.Statement.{statement}
@@ -76,7 +76,7 @@ returns c =
     let f = weighted (a .message .absent) (a .message .present) in
     let e : s .i ≡ length (a .out .now) = omega (arith, s .inv .1, c .loop-test .left) in
     let n : length (column f (a .cpd .now)) ≡ length (a .out .now) = omega (arith, length-column f (a .cpd .now), b .pre) in
-    s .inv .2 ∙ ap (λ (k : ℕ). write (a .out .now) 0 k (λ j. getD (column f (a .cpd .now)) j nan)) e ∙ write-whole nan (a .out .now) (column f (a .cpd .now)) (length (a .out .now)) refl n
+    whole-written nan (a .out .now) (s .out) (column f (a .cpd .now)) (s .i) (length (a .out .now)) (s .inv .2) e refl n
 
 pub weigh-rows-spec : {M : Type 1} → statement M
 weigh-rows-spec =
