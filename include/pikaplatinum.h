@@ -1,4 +1,5 @@
-/* How likely each packaging grade is, from the tracer marks read in a bale.
+/* How likely each packaging grade is, from the tracer marks read in a bale; and which reads of two readers over one belt belong
+ * together.
  *
  * A bale is a graph: grades (numbered from 0), markers (two evidence floats each, absent then present) and pairs (grade, then
  * marker: this grade carries this mark; up to 128 grades may carry one). Zero-lookahead belief propagation answers, part by part, a
@@ -30,7 +31,8 @@ enum pikaplatinum_refusal {
     PIKAPLATINUM_EVIDENCE = 5,       /* an evidence float outside 2^-14 to 1, or NaN; place the marker */
     PIKAPLATINUM_UNKNOWN = 6,        /* a pair with an unknown grade or marker; place the pair */
     PIKAPLATINUM_REPEATED = 7,       /* a pair given before; place the later pair */
-    PIKAPLATINUM_CROWDED = 8         /* a marker with over 128 grades; place the marker */
+    PIKAPLATINUM_CROWDED = 8,        /* a marker with over 128 grades; place the marker */
+    PIKAPLATINUM_FALLING = 10        /* of pikaplatinum_match_reads alone, which has 1, 2 and 10: see there */
 };
 
 /* How a part's run ended. */
@@ -89,6 +91,33 @@ struct pikaplatinum_reply pikaplatinum_calibrate_all_subgraphs(
     float *belief_floats, size_t belief_floats_length,
     uint32_t *ending_numbers, size_t ending_numbers_length,
     float *ending_floats, size_t ending_floats_length);
+
+/* Two readers over one belt: which upper read and which lower read saw the same mark.
+ *
+ * Two reads may be matched if they have the same marker and are at most `window` ticks apart, whichever came first; no tick, marker or
+ * window is refused, and ticks do not wrap. Upper reads are taken in order, each with the lowest-indexed unused lower read that it may
+ * have. No read is used twice, and no list of matches is longer.
+ *
+ * Refused, in this order: 1, over 1,024 reads a side, place 0; 2, under two numbers of `matches` for each read of the shorter list, place 0;
+ * 10, a tick below the one before it in its list, place the later of the two reads, lower reads being numbered on after the upper
+ * ones. */
+
+/* refusal 0: so many matches were written. Else the refusal's number and place. */
+struct pikaplatinum_matches {
+    uint32_t refusal;
+    uint32_t place;
+    uint32_t matches;
+};
+
+/*   upper, lower    two numbers for each read, its tick and its marker; an odd last number is not read
+ *   window          in ticks
+ *   matches         of each match the upper read's index, then the lower read's; upper indices rise. What is behind them stays as it was,
+ *                   and after a refusal all of it */
+struct pikaplatinum_matches pikaplatinum_match_reads(
+    const uint32_t *upper, size_t upper_length,
+    const uint32_t *lower, size_t lower_length,
+    uint32_t window,
+    uint32_t *matches, size_t matches_length);
 
 #ifdef __cplusplus
 }

@@ -24,6 +24,9 @@ pub mod PartAlone
 pub mod BaleFile
 pub mod Text
 pub mod Listing
--- Computed: the constants, and document 01's 'Bales to prove'.
+-- Two readers over one belt.
+pub mod Readers
+-- Computed: the constants, document 01's 'Bales to prove', and belts under two readers.
 pub mod Constants
 pub mod Bales
+pub mod Belts

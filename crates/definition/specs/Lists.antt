@@ -1,4 +1,4 @@
--- Lists: runs of numbers, choosing, and where a thing stands. `eq` is the test by which two things are the same.
+-- Lists: runs of numbers, choosing, entries in twos, and where a thing stands. `eq` is the test by which two things are the same.
 use Prim.Native.Nat.{ℕ, zero, suc}
 use mathlib.Core.Bool.{Bool, true, false, cond, _||_}
 use mathlib.Core.List.{List, [], _∷_, _++_}
@@ -23,6 +23,13 @@ module _ {A : Type 0} where
   abbrev pub concat : List (List A) → List A
   concat [] = []
   concat (x ∷ xs) = x ++ concat xs
+
+-- one thing of each two entries; an odd last entry is not read
+module _ {A B : Type 0} (f : A → A → B) where
+  abbrev pub twos : List A → List B
+  twos [] = []
+  twos (x ∷ []) = []
+  twos (x ∷ y ∷ l) = f x y ∷ twos l
 
 module _ {A : Type 0} (eq : A → A → Bool) where
   -- whether a stands in the list, and at which place first

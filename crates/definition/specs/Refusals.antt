@@ -8,6 +8,7 @@ use lib.Ieee.{Float, nan, inf, fin, lt, le}
 use lib.IntN.{negsuc}
 use lib.ListN.{length}
 use Rattle.definition.specs.Floats.{zeroᶠ, oneᶠ}
+use Rattle.definition.specs.Lists.{twos}
 use Rattle.definition.specs.Settings.{Settings}
 use Rattle.definition.specs.FactorGraph.{Evidence, Pair, Bale, markerNumbers, gradesOf}
 
@@ -24,14 +25,10 @@ pub record Buffers : Type 0 where
 
 -- two floats to a marker and two numbers to a pair; an odd last entry is not read
 unfoldable pub markersOf : List Float → List Evidence
-markersOf [] = []
-markersOf (a ∷ []) = []
-markersOf (a ∷ p ∷ l) = record { absent = a; present = p } ∷ markersOf l
+markersOf = twos (λ a p. record { absent = a; present = p })
 
 unfoldable pub pairsOf : List ℕ → List Pair
-pairsOf [] = []
-pairsOf (g ∷ []) = []
-pairsOf (g ∷ m ∷ l) = record { grade = g; marker = m } ∷ pairsOf l
+pairsOf = twos (λ g m. record { grade = g; marker = m })
 
 unfoldable pub baleOf : ℕ → List Float → List ℕ → Bale
 baleOf g es ps = record { grades = g; markers = markersOf es; pairs = pairsOf ps }

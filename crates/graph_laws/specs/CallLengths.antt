@@ -5,7 +5,7 @@ use mathlib.Core.Path.{_≡_, refl, ap}
 use mathlib.Core.Bool.{false}
 use mathlib.Core.List.{List}
 use lib.Ieee.{Float}
-use lib.ListN.{length, drop, replicate, length-append, length-drop, length-replicate}
+use lib.ListN.{length, drop, replicate, length-replicate}
 use Rattle.graph_laws.specs.Bools.{or-no, no-ltb}
 use Rattle.definition.specs.Floats.{zeroᶠ}
 use Rattle.definition.specs.Settings.{Settings}
@@ -17,6 +17,7 @@ use Rattle.graph_laws.specs.Lists.{All, All-append, All-drop, All-replic
 use Rattle.graph_laws.specs.Accepted.{passes-all, sized}
 use Rattle.graph_laws.specs.Refused.{refused-small}
 use Rattle.graph_laws.specs.AnswerSizes.{answer-sizes}
+use Rattle.graph_laws.specs.Overwriting.{over-length}
 
 -- m has every buffer as long as l has it
 pub record SameLengths (m l : Lent) : Type 0 where
@@ -52,9 +53,6 @@ room f b h =
       endingNumbers = no-ltb _ _ (x4 .1);
       endingFloats = no-ltb _ _ (x5 .1);
     }
-
-over-length : {A : Type 0} (xs m : List A) → length xs ≤ length m → length (overwrite xs m) ≡ length m
-over-length xs m h = omega (arith, length-append xs (drop (length xs) m), length-drop (length xs) m)
 
 over-work : {A : Type 0} (w : ℕ) (x : A) (m : List A) → w ≤ length m → length (overwrite (replicate w x) m) ≡ length m
 over-work w x m h = over-length (replicate w x) m (omega (arith, length-replicate w x))

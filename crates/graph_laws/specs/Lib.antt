@@ -1,6 +1,7 @@
 -- Tests and lists.
 pub mod Bools
 pub mod Lists
+pub mod Twos
 pub mod Ranks
 -- The walk: it ends, it commutes with renaming, its parts are closed and partition the nodes; each edge of a part names itself.
 pub mod Walk
@@ -48,7 +49,9 @@ pub mod Linked
 pub mod Connected
 pub mod Subsets
 pub mod AnswerSizes
+pub mod Overwriting
 pub mod CallLengths
+pub mod FirstChecks
 pub mod Refused
 -- The presence patterns over which an exact sum runs.
 pub mod Patterns

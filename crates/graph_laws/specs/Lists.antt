@@ -1,9 +1,10 @@
 -- What holds of each thing of a list; choosing, renaming and membership.
-use mathlib.Core.Path.{_≡_, refl, sym, ap, subst}
+use mathlib.Core.Path.{_≡_, refl, sym, ap, _∙_, subst}
 use mathlib.Core.Bool.{Bool, true, false, _||_, false≢true, or-true}
 use mathlib.Core.List.{List, [], _∷_, _++_, map}
-use Prim.Native.Nat.{ℕ, zero, suc}
-use lib.ListN.{length, take, drop, replicate}
+use Prim.Native.Nat.{ℕ, zero, suc, _+_, _<_}
+use native.Mathlib.Omega.{arith}
+use lib.ListN.{length, getD, take, drop, replicate}
 use Rattle.definition.specs.Lists.{range, consIf, filter, mem}
 
 -- the numbers below n
@@ -17,6 +18,16 @@ count-suc i (suc n) = ap (λ (l : List ℕ). suc i ∷ l) (count-suc (suc i) n)
 pub length-count : (i n : ℕ) → length (range i n) ≡ n
 length-count i zero = refl
 length-count i (suc n) = ap suc (length-count (suc i) n)
+
+-- an entry of what is made of a run of numbers
+module _ {A : Type 0} (f : ℕ → A) (d : A) where
+  from-at : (i n k : ℕ) → k < n → getD (map f (range i n)) k d ≡ f (i + k)
+  from-at i zero k h = absurd (let z : ⊥ = omega arith in z)
+  from-at i (suc n) zero h = ap f (let z : i ≡ i + 0 = omega arith in z)
+  from-at i (suc n) (suc k) h = from-at (suc i) n k (omega arith) ∙ ap f (let z : suc i + k ≡ i + suc k = omega arith in z)
+
+  pub count-at : (n k : ℕ) → k < n → getD (map f (range 0 n)) k d ≡ f k
+  count-at n k h = from-at 0 n k h ∙ ap f (let z : 0 + k ≡ k = omega arith in z)
 
 -- what holds of each thing of a list
 abbrev pub All : {A : Type 0} → (A → Type 0) → List A → Type 0

@@ -1,25 +1,17 @@
 -- Beliefs written one behind the other over the fronts of two slices.
-use Prim.Native.Nat.{ℕ, suc, _+_, _*_, _<_}
+use Prim.Native.Nat.{ℕ, _+_, _*_, _<_}
 use native.Mathlib.Omega.{arith}
 use mathlib.Core.Path.{_≡_, refl, sym, ap, _∙_}
 use mathlib.Core.List.{List, [], _∷_, _++_, map-append, append-assoc}
 use lib.Ieee.{Float, nan}
-use lib.ListN.{length, drop, getD, set, length-append}
-use lib.Seq.{drop-cons, set-at}
+use lib.ListN.{length, set, length-append}
 use Rattle.definition.specs.Vectors.{binary}
 use Rattle.definition.specs.Answer.{Belief, beliefNumbers, beliefFloats}
 use Rattle.definition.specs.Call.{overwrite}
 use Rattle.graph_laws.specs.Lists.{append-none}
 use Rattle.graph_laws.specs.AnswerSizes.{numbers-length}
+use Rattle.graph_laws.specs.Overwriting.{over-one, over-two}
 use Rattle.part.specs.Named.{Believed}
-
--- one more behind what was written
-over-one : {A : Type 0} (d : A) (l m : List A) (k : ℕ) (v : A) → length l ≡ k → k < length m → set (overwrite l m) k v ≡ overwrite (l ++ (v ∷ [])) m
-over-one {A} d l m k v e h =
-    ap (λ (r : List A). set (l ++ r) k v) (drop-cons m (length l) d (omega arith))
-    ∙ set-at l (getD m (length l) d) (drop (suc (length l)) m) v k e
-    ∙ sym (append-assoc l (v ∷ []) (drop (suc (length l)) m))
-    ∙ ap (λ (n : ℕ). (l ++ (v ∷ [])) ++ drop n m) (let z : suc (length l) ≡ length (l ++ (v ∷ [])) = omega (arith, length-append l (v ∷ [])) in z)
 
 floats-append : (bs : List Belief) (b : Belief) → beliefFloats (bs ++ (b ∷ [])) ≡ beliefFloats bs ++ b .value
 unfolding beliefFloats
@@ -49,7 +41,6 @@ module _ (bs : List Belief) (b : Belief) (numbers : List ℕ) (floats : List Flo
             ∙ ap (λ (l : List ℕ). overwrite l numbers) (sym (numbers-append bs b));
         floats-are =
             ap (λ (l : List Float). set (set l (2 * k) x) (2 * k + 1) y) (H .floats-are)
-            ∙ ap (λ (l : List Float). set l (2 * k + 1) y) (over-one nan (beliefFloats bs) floats (2 * k) x f (omega arith))
-            ∙ over-one nan (beliefFloats bs ++ (x ∷ [])) floats (2 * k + 1) y (omega (arith, f, length-append (beliefFloats bs) (x ∷ []))) g
-            ∙ ap (λ (l : List Float). overwrite l floats) (append-assoc (beliefFloats bs) (x ∷ []) (y ∷ []) ∙ ap (λ (l : List Float). beliefFloats bs ++ l) e ∙ sym (floats-append bs b));
+            ∙ over-two nan (beliefFloats bs) floats (2 * k) x y f g
+            ∙ ap (λ (l : List Float). overwrite l floats) (ap (λ (l : List Float). beliefFloats bs ++ l) e ∙ sym (floats-append bs b));
       }

@@ -1,2 +1,3 @@
 -- What the exported functions answer, tied to the definition.
 pub mod Reply
+pub mod Matches

@@ -7,6 +7,11 @@ ghost use Rattle.pikaplatinum.specs.Reply.{replyTo, Answers, leastSizes}
 use zero_lookahead_belief_propagation::Outcome;
 use zero_lookahead_belief_propagation::calibrate_all_subgraphs;
 
+mod matches;
+
+pub use matches::Matches;
+pub use matches::pikaplatinum_match_reads;
+
 // An outcome as numbers: refusal 0, and how many beliefs and endings there are; or the refusal's number and place.
 #[repr(C)]
 pub struct Reply {

@@ -1,4 +1,5 @@
 pub mod Demand3
+pub mod TwoReaders
 pub mod Facts
 pub mod ExactSums
 pub mod ExactSumsMet

@@ -15,6 +15,7 @@ use Rattle.definition.specs.Answer.{Belief, PartAnswer, answersOf, answersFrom,
 use Rattle.definition.specs.Call.{overwrite}
 use Rattle.graph_laws.specs.Lists.{All, All-left}
 use Rattle.graph_laws.specs.AnswerSizes.{TwoFloats, AnswerSizes, numbers-length, floats-length, endings-length, residuals-length}
+use Rattle.graph_laws.specs.Overwriting.{over-length}
 
 -- ---- a slice from an index on, as it is lent, and what is left in the whole
 
@@ -114,9 +115,6 @@ overwrite-join xs ys m l k e q =
     (ap (λ (n : List _). xs ++ (ys ++ n)) (drop-drop (length ys) (length xs) m ∙ ap (λ (n : ℕ). drop n m) (sym (length-append xs ys)))
     ∙ sym (append-assoc xs ys (drop (length (xs ++ ys)) m)))
 
-overwrite-length : {A : Type 0} (xs m : List A) → length xs ≤ length m → length (overwrite xs m) ≡ length m
-overwrite-length xs m h = omega (arith, length-append xs (drop (length xs) m), length-drop (length xs) m)
-
 -- ---- the next part behind those before
 
 module _ (qs rs : List PartAnswer) (two : All TwoFloats (answeredBeliefs qs)) (l l₁ : Answers) (m k : ℕ) (W : Written qs l m k l₁) where
@@ -175,16 +173,16 @@ module _ (qs rs : List PartAnswer) (two : All TwoFloats (answeredBeliefs qs)) (l
       a = ap length (answered-append qs rs) ∙ length-append (answeredBeliefs qs) (answeredBeliefs rs)
 
       bn : length (l₁ .beliefNumbers) ≡ length (l .beliefNumbers)
-      bn = ap (λ (y : Answers). length (y .beliefNumbers)) (W .is) ∙ overwrite-length (beliefNumbers (answeredBeliefs qs)) (l .beliefNumbers) (omega (arith, bn-long, W .beliefs-are, F .beliefNumbers, a))
+      bn = ap (λ (y : Answers). length (y .beliefNumbers)) (W .is) ∙ over-length (beliefNumbers (answeredBeliefs qs)) (l .beliefNumbers) (omega (arith, bn-long, W .beliefs-are, F .beliefNumbers, a))
 
       bf : length (l₁ .beliefFloats) ≡ length (l .beliefFloats)
-      bf = ap (λ (y : Answers). length (y .beliefFloats)) (W .is) ∙ overwrite-length (beliefFloats (answeredBeliefs qs)) (l .beliefFloats) (omega (arith, bf-long, W .beliefs-are, F .beliefFloats, a))
+      bf = ap (λ (y : Answers). length (y .beliefFloats)) (W .is) ∙ over-length (beliefFloats (answeredBeliefs qs)) (l .beliefFloats) (omega (arith, bf-long, W .beliefs-are, F .beliefFloats, a))
 
       en : length (l₁ .endingNumbers) ≡ length (l .endingNumbers)
-      en = ap (λ (y : Answers). length (y .endingNumbers)) (W .is) ∙ overwrite-length (endingNumbers qs) (l .endingNumbers) (omega (arith, en-long, W .endings-are, F .endingNumbers, length-append qs rs))
+      en = ap (λ (y : Answers). length (y .endingNumbers)) (W .is) ∙ over-length (endingNumbers qs) (l .endingNumbers) (omega (arith, en-long, W .endings-are, F .endingNumbers, length-append qs rs))
 
       ef : length (l₁ .endingFloats) ≡ length (l .endingFloats)
-      ef = ap (λ (y : Answers). length (y .endingFloats)) (W .is) ∙ overwrite-length (endingFloats qs) (l .endingFloats) (omega (arith, ef-long, W .endings-are, F .endingFloats, length-append qs rs))
+      ef = ap (λ (y : Answers). length (y .endingFloats)) (W .is) ∙ over-length (endingFloats qs) (l .endingFloats) (omega (arith, ef-long, W .endings-are, F .endingFloats, length-append qs rs))
 
 -- ---- the parts one by one
 
