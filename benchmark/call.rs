@@ -1,11 +1,15 @@
 //! Times the proved call beside the Rust, in one process: the median of several rounds on each shape. Run by benchmark/call.
 
+#[path = "../differential/buffer.rs"]
+mod buffer;
 #[path = "../differential/compare.rs"]
 mod compare;
 #[path = "../differential/library.rs"]
 mod library;
+mod measure;
 
 use library::{Buffers, calibrate};
+use measure::{median, peak_stack};
 use oracle::call::{Call, Lent, Outcome, Settings, call};
 use oracle::random::Random;
 use oracle::shapes::{Graph, Room, chain, complete, cycle, random_pairs};
@@ -13,11 +17,6 @@ use std::hint::black_box;
 use std::time::Instant;
 
 const ROUNDS: usize = 7;
-
-fn median(mut times: Vec<f64>) -> f64 {
-    times.sort_by(f64::total_cmp);
-    times[times.len() / 2]
-}
 
 /// The program's settings, with evidence that makes the loop work.
 fn call_of(graph: &Graph, tolerance: f32) -> Call {
@@ -68,30 +67,11 @@ fn line(name: &str, request: &Call) -> bool {
     ours <= 0.5 * rust
 }
 
-const PAINT: u8 = 0xC5;
-const PAINTED: usize = 2 << 20;
-
-/// How many bytes below this frame the call writes: the stack there is painted, and what is left of the paint is counted.
-#[inline(never)]
-fn stack_of(request: &Call, lent: &mut Buffers) -> usize {
-    let here = 0u8;
-    let top = &raw const here as usize - 1024;
-    let bottom = top - PAINTED;
-    for at in bottom..top {
-        unsafe { (at as *mut u8).write_volatile(PAINT) };
-    }
-    black_box(calibrate(black_box(request), lent));
-    let left = (bottom..top).take_while(|&at| unsafe { (at as *const u8).read_volatile() } == PAINT).count();
-    PAINTED - left
-}
-
-fn peak_stack(request: &Call) -> usize {
-    let measured = std::thread::scope(|scope| {
-        let builder = std::thread::Builder::new().stack_size(4 * PAINTED);
-        let worker = builder.spawn_scoped(scope, || stack_of(request, &mut Buffers::lent(request)));
-        worker.expect("a thread starts").join()
-    });
-    measured.expect("the call returns")
+fn peak_stack_of(request: &Call) -> usize {
+    let mut lent = Buffers::lent(request);
+    peak_stack(|| {
+        black_box(calibrate(black_box(request), &mut lent));
+    })
 }
 
 fn room(grades: usize, markers: usize, pairs: usize) -> Room {
@@ -118,7 +98,7 @@ fn main() {
     take("1,024 grades, 64 markers of 128 grades", &crowded(64, 128), 0.006);
     take("a chain of 1,024 grades and 1,024 markers", &chain(2048), 0.006);
     take("a cycle of 1,024 grades and 1,024 markers", &cycle(1024), 0.006);
-    println!("\npeak stack of the call: {} KiB", peak_stack(&call_of(&random(8192), 0.006)).div_ceil(1024));
+    println!("\npeak stack of the call: {} KiB", peak_stack_of(&call_of(&random(8192), 0.006)).div_ceil(1024));
     println!("\nAs the pairs grow, 1,024 grades and 1,024 markers at random:\n");
     println!("| pairs | Rust, ms | proved, ms | ratio | steps | steps a second |\n|---|---|---|---|---|---|");
     for pairs in [256, 512, 1024, 2048, 4096, 8192] {

@@ -1,10 +1,13 @@
 //! Compares the proved library with the Rust, call by call, in one process. Run by differential/run.
 
+mod belts;
+mod buffer;
 mod compare;
 mod hostile;
 mod library;
 mod shrink;
 mod small;
+mod threads;
 mod totals;
 
 use compare::agrees_with;
@@ -13,6 +16,7 @@ use oracle::call::{Call, Outcome, call, call_with_bounds};
 use oracle::generate::{accepted_call, any_call, limits_call, wide_call};
 use oracle::random::Random;
 use std::time::{Duration, Instant};
+use threads::on_all_threads;
 use totals::Totals;
 
 /// One call compared, and its messages in force if asked: with their bounds the Rust runs slower, so that they are taken of one call in sixteen.
@@ -63,13 +67,7 @@ fn share(kind: &str, first: u64, step: u64, end: u64, until: Option<Instant>) ->
 fn random_calls(kind: &str, seed: u64, count: u64, seconds: Option<u64>) -> bool {
     let begun = Instant::now();
     let until = seconds.map(|s| begun + Duration::from_secs(s));
-    let threads = std::thread::available_parallelism().map_or(1, |n| n.get() as u64);
-    let shares: Vec<(Totals, Option<Call>)> = std::thread::scope(|scope| {
-        let workers: Vec<_> = (0..threads)
-            .map(|i| scope.spawn(move || share(kind, seed + i, threads, seed.saturating_add(count), until)))
-            .collect();
-        workers.into_iter().map(|worker| worker.join().expect("a worker ends")).collect()
-    });
+    let shares = on_all_threads(|i, threads| share(kind, seed + i, threads, seed.saturating_add(count), until));
     let mut totals = Totals::new();
     shares.iter().for_each(|(own, _)| totals.add(own));
     let failing = shares.into_iter().find_map(|(_, call)| call);
@@ -122,10 +120,11 @@ fn main() {
             listed_calls("markers of 64 to 129 grades", oracle::wide::calls().into_iter()) && random_calls("wide", seed, count, None)
         }
         Some("alone") => alone(seed, count),
+        Some("belts") => belts::all_small() && belts::random(seed, count),
         Some("seconds") => random_calls("any", seed, u64::MAX, Some(number(words.get(2), 60))),
         Some(kind @ ("any" | "accepted" | "hostile" | "limits")) => random_calls(kind, seed, count, None),
         _ => {
-            eprintln!("differential small | alone SEED COUNT | any|accepted|wide|hostile|limits SEED COUNT | seconds SEED SECONDS");
+            eprintln!("differential small | alone|belts SEED COUNT | any|accepted|wide|hostile|limits SEED COUNT | seconds SEED SECONDS");
             std::process::exit(2);
         }
     };

@@ -1,20 +1,26 @@
-//! The reference Rust with document 01's stand-ins, behind document 01's call.
+//! The reference Rust with document 01's stand-ins, behind document 01's call,
+//! and a reference for document 02's belts.
 
 pub mod alone;
 pub mod bale;
+pub mod belt;
 pub mod call;
 pub mod faults;
+pub mod faults_of_belts;
 pub mod generate;
+pub mod generate_belts;
 pub mod generate_files;
 pub mod graph;
 pub mod hooks;
 pub mod limits;
 pub mod log_table;
+pub mod longest;
 pub mod pieces;
 pub mod queue;
 pub mod random;
 pub mod refusal;
 pub mod selfcheck;
+mod selfcheck_belts;
 mod selfcheck_calls;
 pub mod shapes;
 pub mod standins;

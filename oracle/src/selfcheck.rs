@@ -1,4 +1,4 @@
-//! Checks of the oracle against document 01 and against itself.
+//! Checks of the oracle against documents 01 and 02 and against itself.
 
 use crate::alone::parts_answer_alone;
 use crate::bale;
@@ -8,6 +8,7 @@ use crate::log_table;
 use crate::pieces::{ln, noisy_or};
 use crate::queue::{OrderedFloat, PriorityQueue};
 use crate::random::Random;
+use crate::selfcheck_belts::belts;
 use crate::selfcheck_calls::{edges_of_range, graphs, order_of_refusals, refusals, wide_marks};
 use crate::standins::{exp, powi};
 use crate::text::{read_call, write_call, write_outcome};
@@ -40,6 +41,7 @@ pub fn run() -> bool {
     wide_marks(&mut tally);
     files(&mut tally);
     generated(&mut tally);
+    belts(&mut tally);
     println!("{} passed, {} failed", tally.passed, tally.failed);
     tally.failed == 0
 }

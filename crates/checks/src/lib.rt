@@ -17,8 +17,8 @@ pub enum Verdict {
     Refused(u32, u32),
 }
 
-// The lowest place at which one check fails.
-enum Place {
+// The lowest place at which a test is true: where a check fails, or what a search finds.
+pub enum Place {
     Nowhere,
     At(u32),
 }

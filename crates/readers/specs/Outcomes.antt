@@ -1,16 +1,9 @@
--- What the functions answer, in the definition's terms.
+-- What the call answers, in the definition's terms.
 use Prim.Native.Nat.{ℕ}
-use mathlib.Core.Option.{Option, none, some}
 use mathlib.Core.List.{List}
 use Rattle.definition.specs.Readers.{MatchOutcome, matched, matchRefused, MatchResult}
-use Rattle.readers.specs.declared.Place.{Place}
-use Rattle.readers.specs.declared.Place.the-variants.{Nowhere, At}
 use Rattle.readers.specs.declared.Answer.{Answer}
 use Rattle.readers.specs.declared.Answer.the-variants.{Matches, Refused}
-
-abbrev pub placeOf : Place → Option ℕ
-placeOf Nowhere = none
-placeOf (At p) = some p
 
 abbrev pub outcomeOf : Answer → MatchOutcome
 outcomeOf (Matches n) = matched n

@@ -7,22 +7,17 @@ ghost use Rattle.definition.specs.Refusals.{lowestPlace, accepted};
 ghost use Rattle.definition.specs.Call.{overwrite};
 ghost use Rattle.definition.specs.Readers.{readsOf, matches, lesser, falls, matchVerdict, matchNumbers, matchCall};
 ghost use Rattle.claims.specs.Matching.{InOrder};
-ghost use Rattle.checks.specs.Verdicts.{verdictOf};
-ghost use Rattle.readers.specs.Outcomes.{placeOf, resultOf};
+ghost use Rattle.checks.specs.Verdicts.{placeOf, verdictOf};
+ghost use Rattle.readers.specs.Outcomes.{resultOf};
 ghost use Rattle.readers.specs.Scan.{readOf, isPassed, Passed, Skipped, isOpen, openTests};
 ghost use Rattle.readers.specs.Turns.{Turnable, Turned};
+use checks::Place;
 use checks::Verdict;
 
 // So many matches were written; or the refusal's number and place.
 pub enum Answer {
     Matches(u32),
     Refused(u32, u32),
-}
-
-// The lowest place at which a test is true.
-enum Place {
-    Nowhere,
-    At(usize),
 }
 
 // ---- 1, 2 and 10
@@ -38,13 +33,14 @@ fn shorter(a: usize, b: usize) -> usize
 
 // The first read whose tick is below that of the one before it.
 fn first_fall(reads: &[u32]) -> Place
+    requires { ⌜ length (now reads) / 2 ≤ 1024 ⌝ }
     ensures { λ r. ⌜ placeOf r ≡ lowestPlace (falls (readsOf (now (reads .entry)))) ⌝ }
 {
     let count = reads.len() / 2;
     let mut i: usize = 1;
     while i < count {
         if reads[2 * i] < reads[2 * i - 2] {
-            return Place::At(i);
+            return Place::At(i as u32);
         }
         i += 1;
     }
@@ -66,10 +62,10 @@ fn check(upper: &[u32], lower: &[u32], size: usize) -> Verdict
         return Verdict::Refused(2, 0);
     }
     if let Place::At(i) = first_fall(upper) {
-        return Verdict::Refused(10, i as u32);
+        return Verdict::Refused(10, i);
     }
     if let Place::At(j) = first_fall(lower) {
-        return Verdict::Refused(10, (uppers + j) as u32);
+        return Verdict::Refused(10, uppers as u32 + j);
     }
     Verdict::Accepted
 }
@@ -147,7 +143,7 @@ fn find(
             return Place::Nowhere;
         }
         if is_open(lower, marks, j, tick, marker, window) {
-            return Place::At(j);
+            return Place::At(j as u32);
         }
         j += 1;
     }
@@ -173,9 +169,9 @@ fn match_next(
     let tick = upper[2 * i];
     let marker = upper[2 * i + 1];
     if let Place::At(j) = find(lower, marks, first, tick, marker, window) {
-        marks[j] = 1;
+        marks[j as usize] = 1;
         answer[2 * count] = i as u32;
-        answer[2 * count + 1] = j as u32;
+        answer[2 * count + 1] = j;
         return count + 1;
     }
     count

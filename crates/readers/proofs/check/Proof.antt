@@ -7,7 +7,7 @@ use Rattle.definition.specs.Refusals.{lowestPlace}
 use Rattle.definition.specs.Readers.{readsOf, lesser, falls}
 use Rattle.readers_laws.specs.Table.{lesser-cases}
 use Rattle.readers.specs.Slices.{falls-count}
-use Rattle.readers.specs.Outcomes.{placeOf}
+use Rattle.checks.specs.Verdicts.{placeOf}
 use Rattle.readers.specs.Verdicts.{place-there, many-upper, many-lower, small-buffer, upper-falls, lower-falls, none-falls}
 use borrow.Author.Needs.{needs}
 use native.Mathlib.Omega.{arith}
@@ -45,15 +45,10 @@ returns-3 : tie.Need-returns-3
 returns-3 c = small-buffer _ _ _ (c .before .before .before .if1 .left) (c .before .before .if2 .left) (subst (λ n. c .before .before .before .before .before .before .args .size < 2 * n) (c .before .shorter .ensures) (c .if3 .taken))
 
 first-fall-requires : tie.Need-first-fall-requires
-first-fall-requires c κs = search needs
+first-fall-requires c κs = c .before .before .before .if1 .left
 
 enum-known-i : tie.Need-enum-known-i
 enum-known-i c = search needs
-
-cast-t12 : tie.Need-cast-t12
-cast-t12 c =
-    let a = c .before .before .before .before .before .before .before .before .before .before .args in
-    omega (arith, place-there (falls (readsOf (a .upper .now))) _ (found-upper (c .before)), falls-count (a .upper .now), c .before .before .before .before .before .before .before .if1 .left)
 
 returns-4 : tie.Need-returns-4
 returns-4 c = upper-falls _ _ _ (c .before .before .before .before .before .before .before .if1 .left) (c .before .before .before .before .before .before .if2 .left) (room (c .before .before .before .before)) _ (found-upper (c .before))
@@ -67,13 +62,11 @@ first-fall-requires-2 c κs = search needs
 enum-known-j : tie.Need-enum-known-j
 enum-known-j c = search needs
 
+cast-t13 : tie.Need-cast-t13
+cast-t13 c = omega (arith, c .before .before .before .before .before .before .before .before .before .before .if1 .left)
+
 add-t14 : tie.Need-add-t14
 add-t14 c =
-    let a = c .before .before .before .before .before .before .before .before .before .before .before .before .before .args in
-    omega (arith, place-there (falls (readsOf (a .lower .now))) _ (found-lower (c .before)), falls-count (a .lower .now), c .before .before .before .before .before .before .before .before .before .before .if1 .left, c .before .before .before .before .before .before .before .before .before .if2 .left)
-
-cast-t15 : tie.Need-cast-t15
-cast-t15 c =
     let a = c .before .before .before .before .before .before .before .before .before .before .before .before .before .args in
     omega (arith, place-there (falls (readsOf (a .lower .now))) _ (found-lower (c .before)), falls-count (a .lower .now), c .before .before .before .before .before .before .before .before .before .before .if1 .left, c .before .before .before .before .before .before .before .before .before .if2 .left)
 
@@ -97,13 +90,12 @@ check-spec =
     returns-3
     first-fall-requires
     enum-known-i
-    cast-t12
     returns-4
     enum-told
     first-fall-requires-2
     enum-known-j
+    cast-t13
     add-t14
-    cast-t15
     returns-5
     enum-told-2
     returns-6)

@@ -44,6 +44,9 @@ returns c =
 is-open-requires : tie.Need-is-open-requires Inv-loop μ-loop
 is-open-requires c κs = (c .before .before .before .before .before .before .pre .0 .0, omega arith)
 
+cast-t17 : tie.Need-cast-t17 Inv-loop μ-loop
+cast-t17 c = omega (arith, c .before .before .before .before .before .before .before .before .pre .0 .0)
+
 returns-2 : tie.Need-returns-2 Inv-loop μ-loop
 returns-2 c =
     let s = c .before .before .before .before .before .before .loop in
@@ -86,6 +89,7 @@ find-spec =
     is-long-before-requires
     returns
     is-open-requires
+    cast-t17
     returns-2
     add-j
     loop-less

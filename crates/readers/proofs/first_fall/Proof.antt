@@ -40,6 +40,9 @@ mul-if1-4 c = omega arith
 shared-slice-read-if1-2 : tie.Need-shared-slice-read-if1-2 Inv-loop μ-loop
 shared-slice-read-if1-2 c = omega arith
 
+cast-t15 : tie.Need-cast-t15 Inv-loop μ-loop
+cast-t15 c = omega (arith, c .before .before .before .before .before .pre)
+
 returns : tie.Need-returns Inv-loop μ-loop
 returns c =
     let s = c .before .before .before .before .loop in
@@ -76,6 +79,7 @@ first-fall-spec =
     sub-if1
     mul-if1-4
     shared-slice-read-if1-2
+    cast-t15
     returns
     add-i
     loop-less

@@ -5,7 +5,7 @@ use mathlib.Core.Path.{_≡_, sym, ap, _∙_}
 use lib.ListN.{length, length-set}
 use Rattle.definition.specs.Refusals.{lowestPlace}
 use Rattle.definition.specs.Readers.{readsOf}
-use Rattle.readers.specs.Outcomes.{placeOf}
+use Rattle.checks.specs.Verdicts.{placeOf}
 use Rattle.readers.specs.Slices.{readIn}
 use Rattle.readers.specs.Scan.{openTests}
 use Rattle.readers.specs.Turns.{turned-none, found-there, has-room, turned-some}
@@ -24,11 +24,8 @@ module _ (b : tie.After-j) where
       some (b .j .given .0 .0) ≡ lowestPlace (openTests (a .window) (readsOf (a .lower .now)) (a .marks .now) (readIn (a .upper .now) (a .i)))
   found = sym (ap placeOf (b .j .given .1)) ∙ b .before .before .find .ensures
 
-  there : (start .args .i < 1024) × (b .j .given .0 .0 < 1024)
-  there =
-      let a = start .args in
-      let j = found-there (a .upper .now) (a .lower .now) (a .window) (a .i) (a .first) (a .count) (a .marks .now) (a .answer .now) (start .pre) _ found in
-      (omega (arith, start .pre .there, start .pre .upper-few), omega (arith, j, start .pre .lower-few))
+  there : b .j .given .0 .0 < 1024
+  there = let a = start .args in omega (arith, found-there (a .upper .now) (a .lower .now) (a .window) (a .i) (a .first) (a .count) (a .marks .now) (a .answer .now) (start .pre) _ found, start .pre .lower-few)
 
   room : 2 * start .args .count + 2 ≤ length (start .args .answer .now)
   room = let a = start .args in has-room (a .upper .now) (a .lower .now) (a .window) (a .i) (a .first) (a .count) (a .marks .now) (a .answer .now) (start .pre) _ found
@@ -60,11 +57,14 @@ find-requires c κs = search needs
 enum-known-j : tie.Need-enum-known-j
 enum-known-j c = search needs
 
+cast-marks : tie.Need-cast-marks
+cast-marks c = search needs
+
 element-write-marks : tie.Need-element-write-marks
-element-write-marks c = there (c .before) .1
+element-write-marks c = there (c .before)
 
 cast-answer : tie.Need-cast-answer
-cast-answer c = let t = there (c .before) in omega arith
+cast-answer c = search needs
 
 mul-answer : tie.Need-mul-answer
 mul-answer c = omega (arith, room (c .before))
@@ -74,9 +74,6 @@ mul-answer-2 c = omega (arith, room (c .before))
 
 slice-write-answer : tie.Need-slice-write-answer
 slice-write-answer c = omega (arith, room (c .before))
-
-cast-answer-2 : tie.Need-cast-answer-2
-cast-answer-2 c = let t = there (c .before) in omega arith
 
 mul-answer-3 : tie.Need-mul-answer-3
 mul-answer-3 c = omega (arith, room (c .before))
@@ -123,12 +120,12 @@ match-next-spec =
     shared-slice-read-marker
     find-requires
     enum-known-j
+    cast-marks
     element-write-marks
     cast-answer
     mul-answer
     mul-answer-2
     slice-write-answer
-    cast-answer-2
     mul-answer-3
     add-answer
     mul-answer-4
