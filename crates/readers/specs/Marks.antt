@@ -61,7 +61,8 @@ unfolding openTests firstFree isFree
 open-free w ls marks ms u l h =
     ap lowestPlace
     (map-cong (isOpen w ls marks u) (isFree w ls ms u) (range 0 (length ls))
-    (All-mono (λ j. j < length ls) (λ j. isOpen w ls marks u j ≡ isFree w ls ms u j) (λ j q. ap (λ (b : Bool). b && mayMatch w u (readAt ls j)) (ap (λ (k : ℕ). eqb k 0) (h j (omega arith)) ∙ unmarked (mem eqb j (lowersOf ms)))) (range 0 (length ls)) (upto-below (length ls))))
+    (All-mono (λ j. j < length ls) (λ j. isOpen w ls marks u j ≡ isFree w ls ms u j)
+    (λ j q. ap (λ (b : Bool). b && mayMatch w u (readAt ls j)) (ap (λ (k : ℕ). eqb k 0) (h j (omega arith)) ∙ unmarked (mem eqb j (lowersOf ms)))) (range 0 (length ls)) (upto-below (length ls))))
 
 -- ---- what is written
 

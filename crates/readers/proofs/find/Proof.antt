@@ -37,9 +37,11 @@ is-long-before-requires c κs = omega arith
 returns : tie.Need-returns Inv-loop μ-loop
 returns c =
     let s = c .before .before .before .before .loop in
-    let a = c .before .before .before .before .before .before .args in
+    let b = c .before .before .before .before .before .before in
+    let a = b .args in
     reached-stop _ (s .j) (s .inv .2)
-    (late-tests (a .window) (a .lower .now) (a .marks .now) (readOf (a .tick) (a .marker)) (c .before .before .before .before .before .before .pre .0 .2) (s .j) (omega arith) (ltb-true _ _ (sym (c .before .is-long-before .ensures) ∙ c .if1 .taken)))
+    (late-tests (a .window) (a .lower .now) (a .marks .now) (readOf (a .tick) (a .marker)) (b .pre .0 .2) (s .j) (omega arith)
+    (ltb-true _ _ (sym (c .before .is-long-before .ensures) ∙ c .if1 .taken)))
 
 is-open-requires : tie.Need-is-open-requires Inv-loop μ-loop
 is-open-requires c κs = (c .before .before .before .before .before .before .pre .0 .0, omega arith)
@@ -53,7 +55,8 @@ returns-2 c =
     let a = c .before .before .before .before .before .before .before .before .args in
     let l : s .j < length (readsOf (a .lower .now)) = omega (arith, length-reads (a .lower .now)) in
     let u = readOf (a .tick) (a .marker) in
-    reached-here _ (s .j) (omega (arith, open-count (a .window) (readsOf (a .lower .now)) (a .marks .now) u)) (open-test (a .window) (readsOf (a .lower .now)) (a .marks .now) u (s .j) l ∙ sym (c .before .is-open .ensures) ∙ c .if2 .taken) (s .inv .2)
+    let t = open-test (a .window) (readsOf (a .lower .now)) (a .marks .now) u (s .j) l in
+    reached-here _ (s .j) (omega (arith, open-count (a .window) (readsOf (a .lower .now)) (a .marks .now) u)) (t ∙ sym (c .before .is-open .ensures) ∙ c .if2 .taken) (s .inv .2)
 
 add-j : tie.Need-add-j Inv-loop μ-loop
 add-j c = omega arith
@@ -68,7 +71,8 @@ loop-again c =
     let l : s .j < length (readsOf (a .lower .now)) = omega (arith, length-reads (a .lower .now)) in
     let u = readOf (a .tick) (a .marker) in
     let k : s .j < length (openTests (a .window) (readsOf (a .lower .now)) (a .marks .now) u) = omega (arith, open-count (a .window) (readsOf (a .lower .now)) (a .marks .now) u) in
-    (refl, omega arith, reached-next _ (s .j) k (open-test (a .window) (readsOf (a .lower .now)) (a .marks .now) u (s .j) l ∙ sym (c .before .is-open .ensures) ∙ c .if2 .left) (s .inv .2))
+    let t = open-test (a .window) (readsOf (a .lower .now)) (a .marks .now) u (s .j) l in
+    (refl, omega arith, reached-next _ (s .j) k (t ∙ sym (c .before .is-open .ensures) ∙ c .if2 .left) (s .inv .2))
 
 returns-3 : tie.Need-returns-3 Inv-loop μ-loop
 returns-3 c =

@@ -41,9 +41,10 @@ skip-requires c κs =
 match-next-requires : tie.Need-match-next-requires Inv-loop μ-loop
 match-next-requires c κs =
     let s = c .before .before .before .before .before .before .loop in
-    let a = c .before .before .before .before .before .before .before .before .before .before .args in
+    let b = c .before .before .before .before .before .before .before .before .before .before in
     let k = c .before .before .skip .ensures in
-    turnable (a .upper .now) (a .lower .now) (a .window) (a .answer .now) (c .before .before .before .before .before .before .before .before .before .before .pre) (s .answer) (s .i) _ (s .count) (omega arith) (s .marks) (s .first) (s .inv .2) (omega (arith, k .there, length-reads (a .lower .now))) (k .passed)
+    turnable (b .args .upper .now) (b .args .lower .now) (b .args .window) (b .args .answer .now) (b .pre) (s .answer) (s .i) _ (s .count) (omega arith)
+    (s .marks) (s .first) (s .inv .2) (omega (arith, k .there, length-reads (b .args .lower .now))) (k .passed)
 
 add-i : tie.Need-add-i Inv-loop μ-loop
 add-i c = omega arith
@@ -54,9 +55,11 @@ loop-less c = omega arith
 loop-again : tie.Need-loop-again Inv-loop μ-loop
 loop-again c =
     let s = c .before .before .before .before .before .before .before .before .before .loop in
-    let a = c .before .before .before .before .before .before .before .before .before .before .before .before .before .args in
+    let b = c .before .before .before .before .before .before .before .before .before .before .before .before .before in
     let k = c .before .before .before .before .before .skip .ensures in
-    let r = running-next (a .upper .now) (a .lower .now) (a .window) (a .answer .now) (c .before .before .before .before .before .before .before .before .before .before .before .before .before .pre) (s .answer) (s .i) _ _ (omega arith) _ _ (s .inv .2 .written) (omega (arith, k .there, length-reads (a .lower .now))) (c .before .before .match-next .ensures) in
+    let r =
+    running-next (b .args .upper .now) (b .args .lower .now) (b .args .window) (b .args .answer .now) (b .pre) (s .answer) (s .i) _ _ (omega arith)
+    _ _ (s .inv .2 .written) (omega (arith, k .there, length-reads (b .args .lower .now))) (c .before .before .match-next .ensures) in
     (refl, omega arith, rw add-one r)
 
 cast-result : tie.Need-cast-result Inv-loop μ-loop
@@ -69,7 +72,8 @@ same-length : tie.Need-same-length Inv-loop μ-loop
 same-length c =
     let s = c .before .loop in
     let b = c .before .before .before .before .before in
-    running-length (b .args .upper .now) (b .args .lower .now) (b .args .window) (b .args .answer .now) (b .pre) (s .answer) (s .marks) (s .first) (s .count) (s .i) (omega arith) (s .inv .2)
+    running-length (b .args .upper .now) (b .args .lower .now) (b .args .window) (b .args .answer .now) (b .pre)
+    (s .answer) (s .marks) (s .first) (s .count) (s .i) (omega arith) (s .inv .2)
 
 returns : tie.Need-returns Inv-loop μ-loop
 returns c =

@@ -18,7 +18,8 @@ returns : tie.Need-returns
 unfolding matchCall matchResult
 returns c =
     let a = c .before .before .before .before .before .before .before .args in
-    let e : matchVerdict (readsOf (a .upper .now)) (readsOf (a .lower .now)) (length (a .answer .now)) ≡ refused _ _ = sym (c .before .before .before .check .ensures) ∙ ap verdictOf (c .before .number .given .1) in
+    let e : matchVerdict (readsOf (a .upper .now)) (readsOf (a .lower .now)) (length (a .answer .now)) ≡ refused _ _ =
+    sym (c .before .before .before .check .ensures) ∙ ap verdictOf (c .before .number .given .1) in
     rw e
 
 enum-told : tie.Need-enum-told
@@ -34,7 +35,8 @@ returns-2 : tie.Need-returns-2
 unfolding matchCall matchResult
 returns-2 c =
     let a = c .before .before .before .before .before .before .before .before .before .before .args in
-    let e : matchVerdict (readsOf (a .upper .now)) (readsOf (a .lower .now)) (length (a .answer .now)) ≡ accepted = sym (c .before .before .before .before .before .before .check .ensures) ∙ ap verdictOf (c .before .before .before .before .enum-told .given .1) in
+    let e : matchVerdict (readsOf (a .upper .now)) (readsOf (a .lower .now)) (length (a .answer .now)) ≡ accepted =
+    sym (c .before .before .before .before .before .before .check .ensures) ∙ ap verdictOf (c .before .before .before .before .enum-told .given .1) in
     let k = c .before .before .match-all .ensures in
     rw e (λ i. record { outcome = matched (k .0 i); buffer = k .1 i })
 

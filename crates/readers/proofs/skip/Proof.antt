@@ -25,7 +25,11 @@ is-passed-requires c κs = (c .before .before .before .pre .0 .0, omega arith)
 returns : tie.Need-returns Inv-loop μ-loop
 returns c =
     let s = c .before .before .before .loop in
-    record { there = omega (arith, length-reads (c .before .before .before .before .before .args .lower .now)); passed = s .inv .2; stops = λ l. sym (c .before .is-passed .ensures) ∙ not-true (c .before .is-passed .result) (c .if1 .taken) }
+    record {
+      there = omega (arith, length-reads (c .before .before .before .before .before .args .lower .now));
+      passed = s .inv .2;
+      stops = λ l. sym (c .before .is-passed .ensures) ∙ not-true (c .before .is-passed .result) (c .if1 .taken);
+    }
 
 add-j : tie.Need-add-j Inv-loop μ-loop
 add-j c = omega arith
