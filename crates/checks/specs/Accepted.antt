@@ -11,7 +11,8 @@ use Rattle.definition.specs.Refusals.{Buffers, pairsOf, markersOf, baleOf, work
 use Rattle.graph_laws.specs.Bools.{or-no, no-ltb}
 use Rattle.graph_laws.specs.AloneChecks.{All-getD}
 use Rattle.graph_laws.specs.Accepted.{Passes, passes-all, sized, valid, uncrowded}
-use Rattle.checks.specs.Searching.{length-range, getD-range}
+use Rattle.graph_laws.specs.Lists.{length-count}
+use Rattle.checks.specs.Searching.{getD-range}
 use Rattle.checks.specs.Slices.{noPair, length-markers, length-pairs, getD-pairs, counts}
 
 -- each lent buffer has the room
@@ -48,7 +49,7 @@ module _ (s : Settings) (f : Buffers) (g : ℕ) (es : List Float) (ps : List ℕ
   few-at m l =
       let k : m < length (markersOf es) = omega (arith, length-markers es) in
       subst (λ (n : ℕ). length (gradesOf (pairsOf ps) n) ≤ 128) (getD-range 0 (length (markersOf es)) m 0 k ∙ omega arith)
-      (All-getD (λ n. length (gradesOf (pairsOf ps) n) ≤ 128) (markerNumbers (baleOf g es ps)) (uncrowded (baleOf g es ps) (all .few)) 0 m (omega (arith, length-range 0 (length (markersOf es)))))
+      (All-getD (λ n. length (gradesOf (pairsOf ps) n) ≤ 128) (markerNumbers (baleOf g es ps)) (uncrowded (baleOf g es ps) (all .few)) 0 m (omega (arith, length-count 0 (length (markersOf es)))))
 
   room-for : Room f g (length es / 2) (length ps / 2)
   unfolding tooSmall workNeeded baleOf

@@ -10,11 +10,11 @@ use lib.Dec.{eqb, ltb}
 use lib.Ieee.{Float}
 use lib.ListN.{length, getD, set, drop, length-map, replicate, drop-of-length-le}
 use lib.Seq.{drop-cons, getD-set-same, getD-set-other}
-use Rattle.definition.specs.Lists.{range, consIf, filter}
+use Rattle.definition.specs.Lists.{consIf, filter}
 use Rattle.definition.specs.FactorGraph.{Pair, markerNumbers, gradesOf}
 use Rattle.definition.specs.Refusals.{pairsOf, markersOf, baleOf, tooManyGrades}
+use Rattle.graph_laws.specs.Lists.{length-count, count-at}
 use Rattle.graph_laws.specs.OneComponent.{filter-length}
-use Rattle.checks.specs.Searching.{getD-map, length-range, getD-range}
 use Rattle.checks.specs.Slices.{zeros, pairAt, noPair, length-markers, length-pairs, getD-pairs}
 
 -- how many of the pairs are marker m's
@@ -72,11 +72,9 @@ counted-all ps i c l C m b = omega (arith, C m b, ap (λ (qs : List Pair). grade
 module _ (g : ℕ) (es : List Float) (ps : List ℕ) where
   pub shared-count : length (map (tooManyGrades (baleOf g es ps)) (markerNumbers (baleOf g es ps))) ≡ length es / 2
   unfolding baleOf
-  shared-count = length-map (markerNumbers (baleOf g es ps)) (tooManyGrades (baleOf g es ps)) ∙ length-range 0 (length (markersOf es)) ∙ length-markers es
+  shared-count = length-map (markerNumbers (baleOf g es ps)) (tooManyGrades (baleOf g es ps)) ∙ length-count 0 (length (markersOf es)) ∙ length-markers es
 
   pub shared-test : (m : ℕ) → m < length es / 2 → getD (map (tooManyGrades (baleOf g es ps)) (markerNumbers (baleOf g es ps))) m false ≡ ltb 128 (gradeCount (pairsOf ps) m)
   unfolding baleOf tooManyGrades
   shared-test m l =
-      let k : m < length (markersOf es) = omega (arith, length-markers es) in
-      getD-map (tooManyGrades (baleOf g es ps)) (range 0 (length (markersOf es))) m 0 (omega (arith, length-range 0 (length (markersOf es)), k))
-      ∙ ap (λ (n : ℕ). ltb 128 (gradeCount (pairsOf ps) n)) (getD-range 0 (length (markersOf es)) m 0 k ∙ omega arith)
+      count-at (tooManyGrades (baleOf g es ps)) false (length (markersOf es)) m (omega (arith, length-markers es))

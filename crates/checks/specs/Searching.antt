@@ -6,10 +6,12 @@ use mathlib.Core.Path.{_≡_, refl, sym, ap, _∙_}
 use mathlib.Core.Bool.{Bool, true, false}
 use mathlib.Core.Option.{none, some}
 use mathlib.Core.List.{List, [], _∷_, map}
-use lib.ListN.{length, getD, drop}
-use lib.Seq.{drop-cons}
+use lib.ListN.{length, getD, drop, length-drop}
+use lib.Seq.{drop-cons, getD-drop}
 use Rattle.definition.specs.Lists.{range}
 use Rattle.definition.specs.Refusals.{lowestPlaceFrom, lowestPlace}
+use Rattle.graph_laws.specs.Places.{All-numbered}
+use Rattle.graph_laws.specs.Accepted.{nowhere}
 
 -- none of the tests before i is true, so the lowest place is that of the rest
 abbrev pub Reached : List Bool → ℕ → Type 0
@@ -44,16 +46,20 @@ past (suc i) (b ∷ bs) k l = past i bs k (omega arith)
 pub reached-end : (bs : List Bool) (i : ℕ) → length bs ≤ i → Reached bs i → none ≡ lowestPlace bs
 reached-end bs i l r = sym (past i bs i l) ∙ r
 
+-- no test from i on is true
+pub reached-stop : (bs : List Bool) (i : ℕ) → Reached bs i → ((k : ℕ) → i ≤ k → k < length bs → getD bs k false ≡ false) → none ≡ lowestPlace bs
+reached-stop bs i r h =
+    sym
+    (nowhere i (drop i bs)
+    (All-numbered (λ c. c ≡ false) false (drop i bs) (λ k l. getD-drop i bs k false ∙ h (i + k) (omega arith) (omega (arith, length-drop i bs)))))
+    ∙ r
+
 -- ---- the tests of the things of a list
 
 pub getD-map : {A : Type 0} (g : A → Bool) (xs : List A) (i : ℕ) (d : A) → i < length xs → getD (map g xs) i false ≡ g (getD xs i d)
 getD-map g [] i d l = absurd (let z : ⊥ = omega arith in z)
 getD-map g (x ∷ xs) zero d l = refl
 getD-map g (x ∷ xs) (suc i) d l = getD-map g xs i d (omega arith)
-
-pub length-range : (i n : ℕ) → length (range i n) ≡ n
-length-range i zero = refl
-length-range i (suc n) = ap suc (length-range (suc i) n)
 
 pub getD-range : (k n i d : ℕ) → i < n → getD (range k n) i d ≡ k + i
 getD-range k zero i d l = absurd (let z : ⊥ = omega arith in z)

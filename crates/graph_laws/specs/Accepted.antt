@@ -26,13 +26,13 @@ abbrev isNone : Option ℕ → Type 0
 isNone none = Unit {0}
 isNone (some n) = ⊥
 
-no-place : (i : ℕ) (bs : List Bool) → lowestPlaceFrom i bs ≡ none → All (λ c. c ≡ false) bs
+pub no-place : (i : ℕ) (bs : List Bool) → lowestPlaceFrom i bs ≡ none → All (λ c. c ≡ false) bs
 unfolding lowestPlaceFrom
 no-place i [] h = tt
 no-place i (true ∷ bs) h = absurd (subst isNone (sym h) tt)
 no-place i (false ∷ bs) h = (refl, no-place (suc i) bs h)
 
-nowhere : (i : ℕ) (bs : List Bool) → All (λ c. c ≡ false) bs → lowestPlaceFrom i bs ≡ none
+pub nowhere : (i : ℕ) (bs : List Bool) → All (λ c. c ≡ false) bs → lowestPlaceFrom i bs ≡ none
 unfolding lowestPlaceFrom
 nowhere i [] h = refl
 nowhere i (true ∷ bs) h = absurd (true≢false (h .0))

@@ -4,14 +4,11 @@ use native.Mathlib.Numerals.{add-one}
 use native.Mathlib.Omega.{arith}
 use mathlib.Core.Path.{_≡_, refl, sym, ap, subst, _∙_}
 use mathlib.Core.Bool.{Bool, true, false, not, _&&_, _||_, and-false}
-use mathlib.Core.Option.{none}
-use mathlib.Core.List.{List, [], _∷_, map}
+use mathlib.Core.List.{List, map}
 use borrow.Author.Tests.{ltb-true, ltb-false, lt-ltb, lt-leb, le-leb, eqb-true, eqb-false}
 use lib.Dec.{eqb, leb, ltb}
-use lib.ListN.{length, getD, drop, length-drop, length-map}
-use lib.Seq.{getD-drop}
+use lib.ListN.{length, getD, length-map}
 use Rattle.definition.specs.Lists.{range}
-use Rattle.definition.specs.Refusals.{lowestPlaceFrom, lowestPlace}
 use Rattle.definition.specs.Readers.{Read, readsOf, readAt, mayMatch}
 use Rattle.claims.specs.Matching.{InOrder}
 use Rattle.readers_laws.specs.Turns.{in-order}
@@ -92,17 +89,6 @@ module _ (w : ℕ) (ls : List Read) (marks : List ℕ) (u : Read) where
   -- what is too late is not open, nor is anything behind it
   pub late-shut : InOrder ls → (j k : ℕ) → u .tick + w < readAt ls j .tick → j ≤ k → k < length ls → isOpen w ls marks u k ≡ false
   late-shut o j k l a b = rw (late k (omega (arith, in-order ls o j k a b))) (and-false (eqb (getD marks k 0) 0))
-
--- ---- a search that ends early
-
-none-from : (xs : List Bool) (i : ℕ) → ((k : ℕ) → k < length xs → getD xs k false ≡ false) → lowestPlaceFrom i xs ≡ none
-unfolding lowestPlaceFrom
-none-from [] i h = refl
-none-from (x ∷ xs) i h = rw (h 0 (omega arith)) (none-from xs (suc i) (λ k l. h (suc k) (omega arith)))
-
-pub reached-stop : (bs : List Bool) (i : ℕ) → Reached bs i → ((k : ℕ) → i ≤ k → k < length bs → getD bs k false ≡ false) → none ≡ lowestPlace bs
-reached-stop bs i r h =
-    sym (none-from (drop i bs) i (λ k l. getD-drop i bs k false ∙ h (i + k) (omega arith) (omega (arith, length-drop i bs)))) ∙ r
 
 -- ---- what is passed stays passed
 

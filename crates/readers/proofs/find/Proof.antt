@@ -4,9 +4,9 @@ use mathlib.Core.Path.{_≡_, refl, sym, _∙_}
 use borrow.Author.Tests.{ltb-true}
 use lib.ListN.{length}
 use Rattle.definition.specs.Readers.{readsOf}
-use Rattle.checks.specs.Searching.{Reached, reached-next, reached-here, reached-end}
+use Rattle.checks.specs.Searching.{Reached, reached-next, reached-here, reached-end, reached-stop}
 use Rattle.readers.specs.Slices.{length-reads}
-use Rattle.readers.specs.Scan.{readOf, openTests, open-count, open-test, passed-reached, reached-stop, late-tests}
+use Rattle.readers.specs.Scan.{readOf, openTests, open-count, open-test, passed-reached, late-tests}
 use native.Mathlib.Omega.{arith}
 use Rattle.readers.proofs.find.Statement.{statement}
 use Rattle.readers.proofs.find.Tie as tie
