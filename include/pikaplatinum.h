@@ -1,5 +1,5 @@
-/* How likely each packaging grade is, from the tracer marks read in a bale; and which reads of two readers over one belt belong
- * together.
+/* How likely each packaging grade is, from the tracer marks read in a bale; and two readers over one belt, their reads held against
+ * each other.
  *
  * A bale is a graph: grades (numbered from 0), markers (two evidence floats each, absent then present) and pairs (grade, then
  * marker: this grade carries this mark; up to 128 grades may carry one). Zero-lookahead belief propagation answers, part by part, a
@@ -92,11 +92,11 @@ struct pikaplatinum_reply pikaplatinum_calibrate_all_subgraphs(
     uint32_t *ending_numbers, size_t ending_numbers_length,
     float *ending_floats, size_t ending_floats_length);
 
-/* Two readers over one belt: which upper read and which lower read saw the same mark.
+/* Two readers over one belt: which upper read is matched with which lower read.
  *
- * Two reads may be matched if they have the same marker and are at most `window` ticks apart, whichever came first; no tick, marker or
- * window is refused, and ticks do not wrap. Upper reads are taken in order, each with the lowest-indexed unused lower read that it may
- * have. No read is used twice, and no list of matches is longer.
+ * Two reads may be matched if they have the same marker and are at most `window` ticks apart, whichever came first. Every marker and
+ * window is allowed, and any ticks that never fall within their list; ticks do not wrap. Upper reads are taken in order, each with the
+ * lowest-indexed unused lower read that it may have. No read is used twice, and no list of matches is longer.
  *
  * Refused, in this order: 1, over 1,024 reads a side, place 0; 2, under two numbers of `matches` for each read of the shorter list, place 0;
  * 10, a tick below the one before it in its list, place the later of the two reads, lower reads being numbered on after the upper
