@@ -1,5 +1,5 @@
-/* How likely each packaging grade is, from the tracer marks read in a bale; and two readers over one belt, their reads held against
- * each other.
+/* How likely each packaging grade is, from the tracer marks read in a bale; in how many patterns of reads a grade is likely; and two readers
+ * over one belt, their reads held against each other.
  *
  * A bale is a graph: grades (numbered from 0), markers (two evidence floats each, absent then present) and pairs (grade, then
  * marker: this grade carries this mark; up to 128 grades may carry one). Zero-lookahead belief propagation answers, part by part, a
@@ -32,7 +32,8 @@ enum pikaplatinum_refusal {
     PIKAPLATINUM_UNKNOWN = 6,        /* a pair with an unknown grade or marker; place the pair */
     PIKAPLATINUM_REPEATED = 7,       /* a pair given before; place the later pair */
     PIKAPLATINUM_CROWDED = 8,        /* a marker with over 128 grades; place the marker */
-    PIKAPLATINUM_FALLING = 10        /* of pikaplatinum_match_reads alone, which has 1, 2 and 10: see there */
+    PIKAPLATINUM_FALLING = 10,       /* of pikaplatinum_match_reads alone, which has 1, 2 and 10: see there */
+    PIKAPLATINUM_MARKERS = 18        /* of pikaplatinum_count_patterns alone, ahead of all others: see there */
 };
 
 /* How a part's run ended. */
@@ -91,6 +92,37 @@ struct pikaplatinum_reply pikaplatinum_calibrate_all_subgraphs(
     float *belief_floats, size_t belief_floats_length,
     uint32_t *ending_numbers, size_t ending_numbers_length,
     float *ending_floats, size_t ending_floats_length);
+
+/* All read patterns of a small graph: what could the reads of these markers say of each grade?
+ *
+ * Each marker is read strongly (evidence 1/16, 15/16) or weakly (15/16, 1/16), in every combination, and each combination is run as one
+ * call: 2 to the power of the markers of them, one where there is no marker. Counted is in how many of them a grade's present belief is
+ * above 1/2 (exactly 1/2 is not), in how many it is not, and in how many the grade has no belief, which is all of them for a grade in no
+ * pair and none for any other.
+ *
+ * Refused, in this order: 18, over 10 markers, place 0; then as the call is, but that 1 is left for grades and pairs, 2 is for short work and
+ * for a report under three numbers a grade, and 5 does not occur. */
+
+/* refusal 0: so many grades were reported. Else the refusal's number and place. */
+struct pikaplatinum_patterns {
+    uint32_t refusal;
+    uint32_t place;
+    uint32_t grades;
+};
+
+/*   settings        as in the call
+ *   evidence        two floats for each marker, of which only the length counts: they are not read; an odd last one is no marker
+ *   pairs           as in the call
+ *   work            as long as pikaplatinum_sizes says; zeros are left in what was needed
+ *   report          three numbers for each grade, by grade: above 1/2, not above, no belief. They add up to 2 to the power of the markers.
+ *                   What is behind them stays as it was, and after a refusal all that is lent */
+struct pikaplatinum_patterns pikaplatinum_count_patterns(
+    float alpha, float beta, float prior, bool regularised, float tolerance, uint32_t loop_limit, uint32_t grades,
+    const float *evidence, size_t evidence_length,
+    const uint32_t *pairs, size_t pairs_length,
+    float *work_floats, size_t work_floats_length,
+    uint32_t *work_numbers, size_t work_numbers_length,
+    uint32_t *report, size_t report_length);
 
 /* Two readers over one belt: which upper read is matched with which lower read.
  *

@@ -11,7 +11,7 @@ use lib.Dec.{T, eqb}
 use lib.ListN.{length, getD, take, replicate}
 use lib.Ieee.{Float}
 use lib.Ieee.Positive.{num, den}
-use Rattle.definition.specs.Lists.{range, filter}
+use Rattle.definition.specs.Lists.{range, filter, patterns}
 use Rattle.definition.specs.Vectors.{Message, entry}
 use Rattle.definition.specs.Settings.{Settings}
 use Rattle.definition.specs.FactorGraph.{Bale, Node, isTree}
@@ -21,7 +21,6 @@ use Rattle.definition.specs.Sweeps.{initialMessage}
 use Rattle.definition.specs.Run.{State, Event, opened, swept, stepped, stateAfter}
 use Rattle.definition.specs.Refusals.{Buffers}
 use Rattle.claims.specs.Parts.{AcceptedPart, Binary32}
-use Rattle.claims.specs.Patterns.{patterns}
 
 -- ---- whole numbers for floats
 

@@ -1,9 +1,13 @@
 -- Of what the claims speak, and the claims: the reader's first file.
 pub mod Parts
 pub mod Claims
--- How far a tree is from the exact sum.
+-- Every pattern once; how far a tree is from the exact sum.
 pub mod Patterns
 pub mod ExactSums
--- Two readers over one belt; the first check that fails, of which a table of refusals speaks.
+-- The first check that fails, of which a table of refusals speaks; document 01's table.
 pub mod First
+pub mod Refused
+-- Two readers over one belt.
 pub mod Matching
+-- All read patterns of a small graph.
+pub mod AllPatterns

@@ -3,7 +3,7 @@ use Prim.Native.Nat.{ℕ, suc, _+_, _*_, _≤_, _<_}
 use mathlib.Core.Path.{_≡_}
 use mathlib.Core.Logic.{_↔_}
 use mathlib.Core.Bool.{true}
-use mathlib.Core.List.{List}
+use mathlib.Core.List.{List, [], _∷_}
 use lib.Dec.{ltb}
 use lib.ListN.{length, getD}
 use Rattle.definition.specs.Lists.{filter}
@@ -90,7 +90,7 @@ pub data MatchFails (us ls : List Read) (size : ℕ) : ℕ → ℕ → Type 0 wh
 -- a call is refused with the first cause, and accepted exactly if there is none
 pub record Judged (us ls : List Read) (size : ℕ) : Type 0 where
   pub accepts : matchVerdict us ls size ≡ accepted ↔ ((n p : ℕ) → MatchFails us ls size n p → ⊥)
-  pub refuses : (n p : ℕ) → matchVerdict us ls size ≡ refused n p ↔ First (MatchFails us ls size) n p
+  pub refuses : (n p : ℕ) → matchVerdict us ls size ≡ refused n p ↔ First (1 ∷ 2 ∷ 10 ∷ []) (MatchFails us ls size) n p
 
 abbrev pub Table : Type 0
 Table = (us ls : List Read) (size : ℕ) → Judged us ls size

@@ -1,16 +1,10 @@
--- The presence patterns of n grades: for each of them whether it is present.
-use Prim.Native.Nat.{ℕ, zero, suc, _^_}
+-- The patterns of n Booleans, of which grades are present or which markers are strongly read: every one of them, once.
+use Prim.Native.Nat.{ℕ, _^_}
 use mathlib.Core.Path.{_≡_}
 use mathlib.Core.Bool.{Bool, true, false, not, _&&_}
-use mathlib.Core.List.{List, [], _∷_, _++_, map}
+use mathlib.Core.List.{List, [], _∷_}
 use lib.ListN.{length}
-use Rattle.definition.specs.Lists.{filter}
-
-abbrev pub patterns : ℕ → List (List Bool)
-patterns zero = [] ∷ []
-patterns (suc n) = map (λ (p : List Bool). false ∷ p) (patterns n) ++ map (λ (p : List Bool). true ∷ p) (patterns n)
-
--- ---- every pattern, once
+use Rattle.definition.specs.Lists.{howMany, patterns}
 
 abbrev pub sameBool : Bool → Bool → Bool
 sameBool true b = b
@@ -25,7 +19,7 @@ samePattern (a ∷ p) (b ∷ q) = sameBool a b && samePattern p q
 -- There are 2 ^ n patterns, and each list of n Booleans is exactly one of them.
 pub record EachOnce (n : ℕ) : Type 0 where
   pub many : length (patterns n) ≡ 2 ^ n
-  pub once : (p : List Bool) → length p ≡ n → length (filter (samePattern p) (patterns n)) ≡ 1
+  pub once : (p : List Bool) → length p ≡ n → howMany (samePattern p) (patterns n) ≡ 1
 
 abbrev pub PatternsEachOnce : Type 0
 PatternsEachOnce = (n : ℕ) → EachOnce n

@@ -1,11 +1,12 @@
--- Document 01's 'Bales to prove', as one table, proved together by computing the definitions.
+-- Document 01's 'Bales to prove' and patterns of reads, as one table, proved together by computing the definitions.
 use Prim.Native.Nat.{ℕ, _/_, _%_}
 use mathlib.Core.Path.{_≡_, refl}
 use mathlib.Core.Bool.{Bool, true, false}
+use mathlib.Core.Option.{some}
 use mathlib.Core.List.{List, [], _∷_, map}
 use lib.IntN.{pos, negsuc}
-use lib.ListN.{length}
-use lib.Ieee.{Float, fin, round, add, sub, mul, div, neg, lt, le, eq, isNan, ofInt, toUnsigned, toBits, size, ofBits}
+use lib.ListN.{length, replicate}
+use lib.Ieee.{Float, binary32, fin, round, add, sub, mul, div, neg, lt, le, eq, isNan, ofInt, toUnsigned, toBits, size, ofBits}
 use Rattle.definition.specs.Floats.{maxᶠ, abs, avoidUnderflow, clamp, logTableNumber, logTableEntry, lnOfBits, ln, expSeries, expReduced, exp, powiFrom, powi, zeroᶠ, halfᶠ, oneᶠ, twoᶠ, ln2, ratio}
 use Rattle.definition.specs.Vectors.{sumOf, productFrom, productOf, normalize, avoidUnderflowAll, logNormalize, sumLogBlocks, sumLogsBatched, binary}
 use Rattle.definition.specs.Settings.{Settings}
@@ -22,7 +23,9 @@ use Rattle.definition.specs.Answer.{logMarginal, marginal, beliefsAmong,
 use Rattle.definition.specs.Refusals.{markersOf, pairsOf, baleOf, outside, tooMany, workNeeded, tooSmall, badTolerance, badEvidence, unknownPair, equalPairs, lowestPlaceFrom, lowestPlace, isAmong, repeatedPairs, tooManyGrades, orRefused, verdict, Buffers, accepted, refused}
 use Rattle.definition.specs.BaleFile.{words, wordKind, bits, fieldWidth, cleanWord, mayFollow, badWordFrom, badWord, wordsOfKind, firstOfKind, settingsOf, evidenceOf, pairOf, baleOfWords}
 use Rattle.definition.specs.Listing.{decimalBefore, decimal, hexDigit, hexBefore, hex, line, partFields, beliefLine, beliefLines, partLines, baleLine, refusal, verdictLines, fileLines, listing}
-use Rattle.definition.specs.Lists.{range}
+use Rattle.definition.specs.Lists.{range, patterns}
+use Rattle.definition.specs.Reads.{withReads, presentOf, presentUnder, aboveHalf}
+use Rattle.definition.specs.Patterns.{PatternBuffers, patternCount, patternCounts, ampleFor, allWeak, patternVerdict}
 use Rattle.definition.specs.Text.{ascii}
 
 -- ---- what the table speaks of
@@ -50,6 +53,13 @@ lent n = record { workFloats = n; workNumbers = 20672; beliefNumbers = 129; beli
 
 abbrev ample : Buffers
 ample = lent 20672
+
+-- so many grades, these pairs, so many markers
+abbrev marked : ℕ → List ℕ → ℕ → Bale
+marked g ps m = record { grades = g; markers = replicate m (record { absent = halfᶠ; present = halfᶠ }); pairs = pairsOf ps }
+
+abbrev reporting : ℕ → PatternBuffers
+reporting n = record { workFloats = 4224; workNumbers = 4224; report = n }
 
 -- how many nodes and edges each component has
 abbrev sizes : Bale → List (List ℕ)
@@ -88,9 +98,22 @@ pub record Bales : Type 0 where
   pub most-grades : verdict (settings 1 2 false) ample (shared 128) ≡ accepted
   pub one-grade-more : verdict (settings 1 2 false) ample (shared 129) ≡ refused 8 0
   pub one-float-less : verdict (settings 1 2 false) (lent 20671) (shared 129) ≡ refused 2 0
+  -- one marker with one grade, read weakly and strongly: each read is one pattern of two
+  pub read-weakly : presentUnder (settings 1 2 false) (marked 1 (0 ∷ 0 ∷ []) 1) (false ∷ []) 0 ≡ some (ofBits binary32 0x3EB851EE)
+  pub read-strongly : presentUnder (settings 1 2 false) (marked 1 (0 ∷ 0 ∷ []) 1) (true ∷ []) 0 ≡ some (ofBits binary32 0x3F16F96E)
+  pub counted : patternCounts (settings 1 2 false) (marked 1 (0 ∷ 0 ∷ []) 1) ≡ 1 ∷ 1 ∷ 0 ∷ []
+  -- a grade in no pair has no belief; no marker is one pattern
+  pub unpaired : patternCounts (settings 1 2 false) (marked 1 [] 1) ≡ 0 ∷ 0 ∷ 2 ∷ []
+  pub no-marker : patternCounts (settings 1 2 false) (unmarked 1) ≡ 0 ∷ 0 ∷ 1 ∷ []
+  -- over 10 markers ahead of too many grades, these ahead of a short report, it ahead of a bad alpha, and that ahead of an unknown pair
+  pub many-markers : patternVerdict (settings 1 2 false) (reporting 0) (marked 1025 [] 11) ≡ refused 18 0
+  pub many-grades : patternVerdict (settings 1 2 false) (reporting 0) (marked 1025 [] 10) ≡ refused 1 0
+  pub short-report : patternVerdict (settings 1 2048 false) (reporting 2) (marked 1 [] 0) ≡ refused 2 0
+  pub alpha-first : patternVerdict (settings 1 2048 false) (reporting 3) (marked 1 [] 0) ≡ refused 3 0
+  pub unknown-marker : patternVerdict (settings 1 2 false) (reporting 3) (marked 1 (0 ∷ 0 ∷ []) 0) ≡ refused 6 0
 
 pub bales : Bales
-unfolding round add sub mul div neg lt le eq isNan ofInt toUnsigned toBits size ofBits maxᶠ abs avoidUnderflow clamp logTableNumber logTableEntry lnOfBits ln expSeries expReduced exp powiFrom powi sumOf productFrom productOf normalize avoidUnderflowAll logNormalize sumLogBlocks sumLogsBatched cpdAbsent cpdAbsentRegularised cpdRows cpdTable convolve countLayer messageUp likelihoodsBelow treeLayers logLength firstLayer treeMessages builtGraph walk components componentsOf subgraph subgraphOf edgeAt directionTo directionsTo firstsIncoming directionFrom messageNodesFrom messageGraph messageGraphOf setMessages copyNode copyNodes initialBelief outMessageLog outMessageVariable outMessageFactor outMessageFactorTo outMessageBy outMessage absLogRatio pairResidual vectorResidual residual equalMessages messageChange changeExceeds needsRebuild treeOutMessages outMessagesTree outMessages initialMessage updateKind openingInput openingFactor logTotal leaveOneOut openingVariable openingGrade initializeMessages opening computeUpdate sweep initialPriority beginLoop exceeds higher highestFrom highestPriority updateSingle neighbourNumbers updateTree updateMessage otherOutgoing addPending pushPriorities scheduledStep applyEvent stateAfter openingAndSweeps events loop run logMarginal marginal beliefsAmong partAnswer answersOf answersFrom answer endingNumber endingResidual answeredBeliefs beliefNumbers beliefFloats endingNumbers endingFloats markersOf pairsOf baleOf outside tooMany workNeeded tooSmall badTolerance badEvidence unknownPair equalPairs lowestPlaceFrom lowestPlace isAmong repeatedPairs tooManyGrades orRefused verdict words wordKind bits fieldWidth cleanWord mayFollow badWordFrom badWord wordsOfKind firstOfKind settingsOf evidenceOf pairOf baleOfWords decimalBefore decimal hexDigit hexBefore hex line partFields beliefLine beliefLines partLines baleLine refusal verdictLines fileLines listing ascii
+unfolding round add sub mul div neg lt le eq isNan ofInt toUnsigned toBits size ofBits maxᶠ abs avoidUnderflow clamp logTableNumber logTableEntry lnOfBits ln expSeries expReduced exp powiFrom powi sumOf productFrom productOf normalize avoidUnderflowAll logNormalize sumLogBlocks sumLogsBatched cpdAbsent cpdAbsentRegularised cpdRows cpdTable convolve countLayer messageUp likelihoodsBelow treeLayers logLength firstLayer treeMessages builtGraph walk components componentsOf subgraph subgraphOf edgeAt directionTo directionsTo firstsIncoming directionFrom messageNodesFrom messageGraph messageGraphOf setMessages copyNode copyNodes initialBelief outMessageLog outMessageVariable outMessageFactor outMessageFactorTo outMessageBy outMessage absLogRatio pairResidual vectorResidual residual equalMessages messageChange changeExceeds needsRebuild treeOutMessages outMessagesTree outMessages initialMessage updateKind openingInput openingFactor logTotal leaveOneOut openingVariable openingGrade initializeMessages opening computeUpdate sweep initialPriority beginLoop exceeds higher highestFrom highestPriority updateSingle neighbourNumbers updateTree updateMessage otherOutgoing addPending pushPriorities scheduledStep applyEvent stateAfter openingAndSweeps events loop run logMarginal marginal beliefsAmong partAnswer answersOf answersFrom answer endingNumber endingResidual answeredBeliefs beliefNumbers beliefFloats endingNumbers endingFloats markersOf pairsOf baleOf outside tooMany workNeeded tooSmall badTolerance badEvidence unknownPair equalPairs lowestPlaceFrom lowestPlace isAmong repeatedPairs tooManyGrades orRefused verdict words wordKind bits fieldWidth cleanWord mayFollow badWordFrom badWord wordsOfKind firstOfKind settingsOf evidenceOf pairOf baleOfWords decimalBefore decimal hexDigit hexBefore hex line partFields beliefLine beliefLines partLines baleLine refusal verdictLines fileLines listing ascii patterns withReads presentOf aboveHalf patternCount patternCounts ampleFor allWeak patternVerdict
 bales =
     record {
       listed = refl;
@@ -111,4 +134,14 @@ bales =
       most-grades = refl;
       one-grade-more = refl;
       one-float-less = refl;
+      read-weakly = refl;
+      read-strongly = refl;
+      counted = refl;
+      unpaired = refl;
+      no-marker = refl;
+      many-markers = refl;
+      many-grades = refl;
+      short-report = refl;
+      alpha-first = refl;
+      unknown-marker = refl;
     }

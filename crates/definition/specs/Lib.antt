@@ -26,7 +26,10 @@ pub mod Text
 pub mod Listing
 -- Two readers over one belt.
 pub mod Readers
--- Computed: the constants, document 01's 'Bales to prove', and belts under two readers.
+-- Markers read strongly or weakly, and all patterns of such reads.
+pub mod Reads
+pub mod Patterns
+-- Computed: the constants, document 01's 'Bales to prove' with patterns of reads, and belts under two readers.
 pub mod Constants
 pub mod Bales
 pub mod Belts

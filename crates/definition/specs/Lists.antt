@@ -1,7 +1,8 @@
--- Lists: runs of numbers, choosing, entries in twos, and where a thing stands. `eq` is the test by which two things are the same.
+-- Lists: runs of numbers, choosing, entries in twos, all patterns, and where a thing stands. `eq` is the test by which two things are the same.
 use Prim.Native.Nat.{ℕ, zero, suc}
 use mathlib.Core.Bool.{Bool, true, false, cond, _||_}
-use mathlib.Core.List.{List, [], _∷_, _++_}
+use mathlib.Core.List.{List, [], _∷_, _++_, map}
+use lib.ListN.{length}
 
 -- n numbers, from i on
 abbrev pub range : ℕ → ℕ → List ℕ
@@ -19,6 +20,10 @@ module _ {A : Type 0} where
   filter f [] = []
   filter f (x ∷ xs) = consIf (f x) x (filter f xs)
 
+  -- how many do
+  abbrev pub howMany : (A → Bool) → List A → ℕ
+  howMany f xs = length (filter f xs)
+
   -- one list after the other
   abbrev pub concat : List (List A) → List A
   concat [] = []
@@ -30,6 +35,11 @@ module _ {A B : Type 0} (f : A → A → B) where
   twos [] = []
   twos (x ∷ []) = []
   twos (x ∷ y ∷ l) = f x y ∷ twos l
+
+-- every list of n Booleans, once: those that begin with false, then those that begin with true
+unfoldable pub patterns : ℕ → List (List Bool)
+patterns zero = [] ∷ []
+patterns (suc n) = map (λ (p : List Bool). false ∷ p) (patterns n) ++ map (λ (p : List Bool). true ∷ p) (patterns n)
 
 module _ {A : Type 0} (eq : A → A → Bool) where
   -- whether a stands in the list, and at which place first

@@ -42,7 +42,7 @@ abbrev isAccepted : Verdict → Type 0
 isAccepted accepted = Unit {0}
 isAccepted (refused n p) = ⊥
 
-passed : (n : ℕ) (o : Option ℕ) (v : Verdict) → orRefused n o v ≡ accepted → (o ≡ none) × (v ≡ accepted)
+pub passed : (n : ℕ) (o : Option ℕ) (v : Verdict) → orRefused n o v ≡ accepted → (o ≡ none) × (v ≡ accepted)
 unfolding orRefused
 passed n none v h = (refl, h)
 passed n (some p) v h = absurd (subst isAccepted (sym h) tt)

@@ -6,21 +6,29 @@ use mathlib.Core.Logic.{_↔_}
 use mathlib.Core.Bool.{Bool, true, false, true≢false, false≢true}
 use mathlib.Core.Option.{Option, none, some}
 use mathlib.Core.List.{List, [], _∷_, map}
-use lib.ListN.{length, getD, getElem?}
-use Rattle.definition.specs.Lists.{range}
+use lib.Dec.{eqb}
+use lib.ListN.{length, getD, getElem?, drop}
+use Rattle.definition.specs.Lists.{range, indexOf}
 use Rattle.definition.specs.Refusals.{lowestPlaceFrom, lowestPlace, Verdict, accepted, refused, orRefused}
 use Rattle.claims.specs.First.{First}
 use Rattle.graph_laws.specs.Lists.{count-at}
 
--- what test p of list n says; and the first that is true, the first list having the number i
-abbrev pub test : List (List Bool) → ℕ → ℕ → Bool
-test cs n p = getD (getD cs n []) p false
+-- a check's number and its tests
+abbrev pub Check : Type 0
+Check = ℕ × List Bool
 
-abbrev pub firstOf : ℕ → List (List Bool) → Verdict
-firstOf i [] = accepted
-firstOf i (c ∷ cs) = orRefused i (lowestPlace c) (firstOf (suc i) cs)
+-- what test p of the check made k-th says, and its number; and the first that is true
+abbrev pub test : List Check → ℕ → ℕ → Bool
+test cs k p = getD (getD cs k (0, []) .1) p false
 
--- ---- the first of a list of tests, and of a list of lists
+abbrev pub numberAt : List Check → ℕ → ℕ
+numberAt cs k = getD cs k (0, []) .0
+
+abbrev pub firstOf : List Check → Verdict
+firstOf [] = accepted
+firstOf (c ∷ cs) = orRefused (c .0) (lowestPlace (c .1)) (firstOf cs)
+
+-- ---- the first of a list of tests, and of a list of checks
 
 pub record FirstTest (i : ℕ) (bs : List Bool) (p : ℕ) : Type 0 where
   pub at : ℕ
@@ -50,46 +58,61 @@ found i (false ∷ bs) = go (lowestPlaceFrom (suc i) bs) (found (suc i) bs)
     go none h = never h
     go (some p) h = record { at = suc (h .at); is = let e = h .is in omega arith; holds = h .holds; before = later (h .at) (h .before) }
 
-pub record FirstCheck (i : ℕ) (cs : List (List Bool)) (n p : ℕ) : Type 0 where
+pub record FirstCheck (cs : List Check) (n p : ℕ) : Type 0 where
   pub at : ℕ
-  pub is : n ≡ i + at
+  pub is : n ≡ numberAt cs at
   pub holds : test cs at p ≡ true
   pub place : (q : ℕ) → q < p → test cs at q ≡ false
-  pub number : (k q : ℕ) → k < at → test cs k q ≡ false
+  pub earlier : (k q : ℕ) → k < at → test cs k q ≡ false
 
-abbrev pub Judged : ℕ → List (List Bool) → Verdict → Type 0
-Judged i cs accepted = (k q : ℕ) → test cs k q ≡ false
-Judged i cs (refused n p) = FirstCheck i cs n p
+abbrev pub Judged : List Check → Verdict → Type 0
+Judged cs accepted = (k q : ℕ) → test cs k q ≡ false
+Judged cs (refused n p) = FirstCheck cs n p
 
-pub judged : (i : ℕ) (cs : List (List Bool)) → Judged i cs (firstOf i cs)
+pub judged : (cs : List Check) → Judged cs (firstOf cs)
 unfolding lowestPlace orRefused
-judged i [] = λ k q. refl
-judged i (c ∷ cs) = go (lowestPlaceFrom 0 c) (found 0 c) (firstOf (suc i) cs) (judged (suc i) cs)
+judged [] = λ k q. refl
+judged (c ∷ cs) = go (lowestPlaceFrom 0 (c .1)) (found 0 (c .1)) (firstOf cs) (judged cs)
   where
-    here : (p : ℕ) → FirstTest 0 c p → FirstCheck i (c ∷ cs) i p
+    here : (p : ℕ) → FirstTest 0 (c .1) p → FirstCheck (c ∷ cs) (c .0) p
     here p t =
         let e : t .at ≡ p = let x = t .is in omega arith in
         record {
           at = 0;
-          is = omega arith;
-          holds = subst (λ (k : ℕ). getD c k false ≡ true) e (t .holds);
+          is = refl;
+          holds = subst (λ (k : ℕ). getD (c .1) k false ≡ true) e (t .holds);
           place = λ q l. t .before q (omega arith);
-          number = λ k q l. absurd (let z : ⊥ = omega arith in z);
+          earlier = λ k q l. absurd (let z : ⊥ = omega arith in z);
         }
 
-    further : ((q : ℕ) → getD c q false ≡ false) → (a : ℕ) → ((k q : ℕ) → k < a → test cs k q ≡ false) → (k q : ℕ) → k < suc a → test (c ∷ cs) k q ≡ false
+    further : ((q : ℕ) → getD (c .1) q false ≡ false) → (a : ℕ) → ((k q : ℕ) → k < a → test cs k q ≡ false) → (k q : ℕ) → k < suc a → test (c ∷ cs) k q ≡ false
     further h a r zero q l = h q
     further h a r (suc k) q l = r k q (omega arith)
 
-    never : ((q : ℕ) → getD c q false ≡ false) → ((k q : ℕ) → test cs k q ≡ false) → (k q : ℕ) → test (c ∷ cs) k q ≡ false
+    never : ((q : ℕ) → getD (c .1) q false ≡ false) → ((k q : ℕ) → test cs k q ≡ false) → (k q : ℕ) → test (c ∷ cs) k q ≡ false
     never h r zero q = h q
     never h r (suc k) q = r k q
 
-    go : (o : Option ℕ) → Found 0 c o → (v : Verdict) → Judged (suc i) cs v → Judged i (c ∷ cs) (orRefused i o v)
+    go : (o : Option ℕ) → Found 0 (c .1) o → (v : Verdict) → Judged cs v → Judged (c ∷ cs) (orRefused (c .0) o v)
     go (some p) t v r = here p t
     go none t accepted r = never t r
-    go none t (refused n p) r =
-        record { at = suc (r .at); is = let e = r .is in omega arith; holds = r .holds; place = r .place; number = further t (r .at) (r .number) }
+    go none t (refused n p) r = record { at = suc (r .at); is = r .is; holds = r .holds; place = r .place; earlier = further t (r .at) (r .earlier) }
+
+-- ---- the turns of the checks
+
+-- a test that is true is one of a check that is there
+test-there : (cs : List Check) (k p : ℕ) → test cs k p ≡ true → k < length cs
+test-there [] k p h = absurd (false≢true h)
+test-there (c ∷ cs) zero p h = omega arith
+test-there (c ∷ cs) (suc k) p h = omega (arith, test-there cs k p h)
+
+abbrev turns : List ℕ → List Check → List ℕ
+turns order cs = map (λ (c : Check). indexOf eqb (c .0) order) cs
+
+turn-at : (order : List ℕ) (i : ℕ) (cs : List Check) → turns order cs ≡ range i (length cs) → (k : ℕ) → k < length cs → indexOf eqb (numberAt cs k) order ≡ i + k
+turn-at order i [] e k l = absurd (let z : ⊥ = omega arith in z)
+turn-at order i (c ∷ cs) e zero l = ap (λ (ns : List ℕ). getD ns 0 0) e ∙ omega arith
+turn-at order i (c ∷ cs) e (suc k) l = turn-at order (suc i) cs (ap (λ (ns : List ℕ). drop 1 ns) e) k (omega arith) ∙ omega arith
 
 -- ---- tests as facts
 
@@ -121,48 +144,66 @@ true-below g i (suc n) (suc p) h = omega (arith, true-below g (suc i) n p h)
 pub count-test : (g : ℕ → Bool) (n p : ℕ) → getD (map g (range 0 n)) p false ≡ true → (p < n) × (g p ≡ true)
 count-test g n p h = let l = true-below g 0 n p h in (l, sym (count-at g false n p l) ∙ h)
 
--- ---- the verdict on a list of checks, whose rows are the table F: check n is list n - 1
+-- ---- the verdict on a list of checks in their order, whose rows are the table F
 
-module _ (F : ℕ → ℕ → Type 0) (cs : List (List Bool)) (v : Verdict) (e₁ : v ≡ firstOf 1 cs)
-    (row : (n p : ℕ) → test cs n p ≡ true → F (suc n) p) (listed : (n p : ℕ) → F n p → (k : ℕ) × (n ≡ suc k) × (test cs k p ≡ true)) where
+module _ (order : List ℕ) (F : ℕ → ℕ → Type 0) (cs : List Check) (v : Verdict) (e₁ : v ≡ firstOf cs)
+    (e₂ : map (λ (c : Check). indexOf eqb (c .0) order) cs ≡ range 0 (length cs))
+    (row : (k p : ℕ) → test cs k p ≡ true → F (numberAt cs k) p) (listed : (n p : ℕ) → F n p → (k : ℕ) × (n ≡ numberAt cs k) × (test cs k p ≡ true)) where
   -- a call is accepted only if no check fails
   pub accepted-none : v ≡ accepted → (n p : ℕ) → F n p → ⊥
   accepted-none h n p w =
-      let r : Judged 1 cs accepted = subst (Judged 1 cs) (sym e₁ ∙ h) (judged 1 cs) in
+      let r : Judged cs accepted = subst (Judged cs) (sym e₁ ∙ h) (judged cs) in
       let t = listed n p w in
       true≢false (sym (t .2) ∙ r (t .0) p)
 
-  -- a refusal has the first number and place that fail
-  pub refused-first : (n p : ℕ) → v ≡ refused n p → First F n p
-  refused-first n p h = record { fails = here; place = place; number = number }
-    where
-      r : FirstCheck 1 cs n p
-      r = subst (Judged 1 cs) (sym e₁ ∙ h) (judged 1 cs)
+  -- when a check is made of which a test is true
+  in-turn : (k p : ℕ) → test cs k p ≡ true → indexOf eqb (numberAt cs k) order ≡ k
+  in-turn k p h = turn-at order 0 cs e₂ k (test-there cs k p h) ∙ omega arith
 
-      e : suc (r .at) ≡ n
-      e = let x : n ≡ 1 + r .at = r .is in omega arith
+  -- a refusal has the first number and place that fail
+  pub refused-first : (n p : ℕ) → v ≡ refused n p → First order F n p
+  refused-first n p h = record { fails = here; place = place; earlier = earlier }
+    where
+      r : FirstCheck cs n p
+      r = subst (Judged cs) (sym e₁ ∙ h) (judged cs)
 
       here : F n p
-      here = subst (λ (k : ℕ). F k p) e (row (r .at) p (r .holds))
+      here = subst (λ (k : ℕ). F k p) (sym (r .is)) (row (r .at) p (r .holds))
+
+      turn : indexOf eqb n order ≡ r .at
+      turn = ap (λ (m : ℕ). indexOf eqb m order) (r .is) ∙ in-turn (r .at) p (r .holds)
+
+      -- the turn of a row
+      turn-of : (m q : ℕ) (t : (k : ℕ) × (m ≡ numberAt cs k) × (test cs k q ≡ true)) → indexOf eqb m order ≡ t .0
+      turn-of m q t = ap (λ (i : ℕ). indexOf eqb i order) (t .1) ∙ in-turn (t .0) q (t .2)
 
       place : (q : ℕ) → q < p → F n q → ⊥
       place q l w =
           let t = listed n q w in
-          let k : t .0 ≡ r .at = omega (arith, t .1, e) in
+          let k : t .0 ≡ r .at = sym (turn-of n q t) ∙ turn in
           true≢false (sym (t .2) ∙ ap (λ (i : ℕ). test cs i q) k ∙ r .place q l)
 
-      number : (m q : ℕ) → m < n → F m q → ⊥
-      number m q l w =
+      earlier : (m q : ℕ) → indexOf eqb m order < indexOf eqb n order → F m q → ⊥
+      earlier m q l w =
           let t = listed m q w in
-          let k : t .0 < r .at = omega (arith, t .1, e) in
-          true≢false (sym (t .2) ∙ r .number (t .0) q k)
+          let k : t .0 < r .at = omega (arith, turn-of m q t, turn) in
+          true≢false (sym (t .2) ∙ r .earlier (t .0) q k)
+
+  -- numbers of the table have turns of their own
+  same-turn : (n p m q : ℕ) → F n p → F m q → indexOf eqb m order ≡ indexOf eqb n order → m ≡ n
+  same-turn n p m q x y e =
+      let t = listed n p x in
+      let u = listed m q y in
+      let k : u .0 ≡ t .0 =
+      sym (ap (λ (i : ℕ). indexOf eqb i order) (u .1) ∙ in-turn (u .0) q (u .2)) ∙ e ∙ ap (λ (i : ℕ). indexOf eqb i order) (t .1) ∙ in-turn (t .0) p (t .2) in
+      u .1 ∙ ap (numberAt cs) k ∙ sym (t .1)
 
   -- only one number and place are first
-  same-first : (n p m q : ℕ) → First F n p → First F m q → refused m q ≡ refused n p
+  same-first : (n p m q : ℕ) → First order F n p → First order F m q → refused m q ≡ refused n p
   same-first n p m q x y =
-      let a : n < m → ⊥ = λ l. y .number n p l (x .fails) in
-      let c : m < n → ⊥ = λ l. x .number m q l (y .fails) in
-      let e : m ≡ n = omega arith in
+      let a : indexOf eqb n order < indexOf eqb m order → ⊥ = λ l. y .earlier n p l (x .fails) in
+      let c : indexOf eqb m order < indexOf eqb n order → ⊥ = λ l. x .earlier m q l (y .fails) in
+      let e : m ≡ n = same-turn n p m q (x .fails) (y .fails) (omega arith) in
       let d : p < q → ⊥ = λ l. y .place p l (subst (λ (k : ℕ). F k p) (sym e) (x .fails)) in
       let g : q < p → ⊥ = λ l. x .place q l (subst (λ (k : ℕ). F k q) e (y .fails)) in
       let i : q ≡ p = omega arith in
@@ -176,10 +217,10 @@ module _ (F : ℕ → ℕ → Type 0) (cs : List (List Bool)) (v : Verdict) (e�
       go h accepted e = refl
       go h (refused n p) e = absurd (h n p (refused-first n p e .fails))
 
-  -- refused with number n and place p exactly if check n fails at p, at no lower place, and no check with a lower number fails
-  pub refused-exactly : (n p : ℕ) → v ≡ refused n p ↔ First F n p
+  -- refused with number n and place p exactly if check n fails at p, at no lower place, and no check that is made before fails
+  pub refused-exactly : (n p : ℕ) → v ≡ refused n p ↔ First order F n p
   refused-exactly n p = (refused-first n p, λ x. go x v refl)
     where
-      go : First F n p → (u : Verdict) → v ≡ u → u ≡ refused n p
+      go : First order F n p → (u : Verdict) → v ≡ u → u ≡ refused n p
       go x accepted e = absurd (accepted-none e n p (x .fails))
       go x (refused m q) e = same-first n p m q x (refused-first m q e)

@@ -1,7 +1,7 @@
 -- A list that is written over the front of another.
 use Prim.Native.Nat.{ℕ, suc, _+_, _≤_, _<_}
 use native.Mathlib.Omega.{arith}
-use mathlib.Core.Path.{_≡_, sym, ap, _∙_}
+use mathlib.Core.Path.{_≡_, refl, sym, ap, _∙_}
 use mathlib.Core.List.{List, [], _∷_, _++_, append-assoc}
 use lib.ListN.{length, drop, getD, set, length-append, length-drop}
 use lib.Seq.{drop-cons, drop-drop, drop-append-seam, drop-append-add, set-at}
@@ -25,9 +25,13 @@ module _ {A : Type 0} where
       ∙ over-one d (l ++ (x ∷ [])) m (k + 1) y (omega (arith, length-append l (x ∷ []))) h
       ∙ ap (λ (r : List A). overwrite r m) (append-assoc l (x ∷ []) (y ∷ []))
 
-  -- what is written over itself, or over a beginning of it
+  -- what is written over as long a list, over itself, or over a beginning of it
+  pub over-other : (l k m : List A) → length l ≡ length k → overwrite l (overwrite k m) ≡ overwrite l m
+  over-other l k m e =
+      ap (λ (n : ℕ). l ++ drop n (overwrite k m)) e ∙ ap (λ (x : List A). l ++ x) (drop-append-seam k (drop (length k) m)) ∙ ap (λ (n : ℕ). l ++ drop n m) (sym e)
+
   pub over-again : (l m : List A) → overwrite l (overwrite l m) ≡ overwrite l m
-  over-again l m = ap (λ (x : List A). l ++ x) (drop-append-seam l (drop (length l) m))
+  over-again l m = over-other l l m refl
 
   pub over-beginning : (l r m : List A) → overwrite (l ++ r) (overwrite l m) ≡ overwrite (l ++ r) m
   over-beginning l r m =

@@ -1,6 +1,6 @@
--- The table of refusals, row by row; and that a call is refused with a number and a place exactly if that check fails there, no check with a lower number
--- fails at all, and this one at no lower place.
-use Prim.Native.Nat.{ℕ, zero, suc, _+_, _*_, _≤_, _<_}
+-- Document 01's table of refusals: a call is refused with a number and a place exactly if that check fails there, no check with a lower number fails at all,
+-- and this one at no lower place.
+use Prim.Native.Nat.{ℕ, zero, suc, _≤_, _<_}
 use native.Mathlib.Omega.{arith}
 use mathlib.Core.Path.{_≡_, refl, sym, ap, _∙_, subst}
 use mathlib.Core.Logic.{_↔_, _⊎_, inl, inr}
@@ -8,66 +8,35 @@ use mathlib.Core.Bool.{Bool, true, false, _||_, false≢true, or-true}
 use mathlib.Core.Option.{some}
 use mathlib.Core.List.{List, [], _∷_, map}
 use borrow.Author.Tests.{ltb-true, lt-ltb, leb-true, le-leb}
-use lib.Dec.{leb, ltb}
+use lib.Dec.{eqb, leb, ltb}
 use lib.ListN.{length, getD, getElem?}
 use Rattle.graph_laws.specs.Bools.{or-cases, or-left, or-right}
 use Rattle.definition.specs.Floats.{oneᶠ}
+use Rattle.definition.specs.Lists.{range, indexOf}
 use Rattle.definition.specs.Settings.{Settings}
-use Rattle.definition.specs.FactorGraph.{Evidence, Pair, Bale, markerNumbers, gradesOf}
+use Rattle.definition.specs.FactorGraph.{Evidence, Pair, Bale, markerNumbers}
 use Rattle.definition.specs.Refusals.{Buffers, outside, leastProbability, greatestProbability, leastEvidence, tooMany, workNeeded, tooSmall, badTolerance, badEvidence, unknownPair, equalPairs, isAmong, repeatedPairs, tooManyGrades, accepted, refused, verdict}
 use Rattle.claims.specs.First.{First}
+use Rattle.claims.specs.Refused.{Fails, manyGrades, manyMarkers, manyPairs, smallWorkFloats, smallWorkNumbers, smallBeliefNumbers, smallBeliefFloats, smallEndingNumbers, smallEndingFloats, badAlpha, badBeta, badPrior, tolerance, limit, absent, present, unknownGrade, unknownMarker, again, crowds}
 use Rattle.graph_laws.specs.Lists.{count-at}
 use Rattle.graph_laws.specs.AloneChecks.{eqPair-sound, eqPair-same}
-use Rattle.graph_laws.specs.FirstChecks.{test, firstOf, nothing, nth-lt, map-test, test-map, count-test, accepted-exactly, refused-exactly}
-
--- ---- the table
-
--- Check n fails at place p. (Check 9, of a bale file, is no check of a call.)
-pub data Fails (s : Settings) (f : Buffers) (b : Bale) : ℕ → ℕ → Type 0 where
-  -- 1: too many
-  manyGrades : 1024 < b .grades → Fails s f b 1 0
-  manyMarkers : 1024 < length (b .markers) → Fails s f b 1 0
-  manyPairs : 8192 < length (b .pairs) → Fails s f b 1 0
-  -- 2: too small a buffer
-  smallWorkFloats : f .workFloats < 64 * (b .grades + length (b .markers) + length (b .pairs)) + 4096 → Fails s f b 2 0
-  smallWorkNumbers : f .workNumbers < 64 * (b .grades + length (b .markers) + length (b .pairs)) + 4096 → Fails s f b 2 0
-  smallBeliefNumbers : f .beliefNumbers < b .grades → Fails s f b 2 0
-  smallBeliefFloats : f .beliefFloats < 2 * b .grades → Fails s f b 2 0
-  smallEndingNumbers : f .endingNumbers < 4 * b .grades → Fails s f b 2 0
-  smallEndingFloats : f .endingFloats < b .grades → Fails s f b 2 0
-  -- 3: a probability out of its range, or NaN
-  badAlpha : outside leastProbability greatestProbability (s .alpha) ≡ true → Fails s f b 3 0
-  badBeta : outside leastProbability greatestProbability (s .beta) ≡ true → Fails s f b 3 1
-  badPrior : outside leastProbability greatestProbability (s .prior) ≡ true → Fails s f b 3 2
-  -- 4: the tolerance, the loop's limit
-  tolerance : badTolerance (s .tolerance) ≡ true → Fails s f b 4 0
-  limit : 1000000 < s .loopLimit → Fails s f b 4 1
-  -- 5: marker m's evidence out of its range, or NaN
-  absent : {m : ℕ} {e : Evidence} → getElem? (b .markers) m ≡ some e → outside leastEvidence oneᶠ (e .absent) ≡ true → Fails s f b 5 m
-  present : {m : ℕ} {e : Evidence} → getElem? (b .markers) m ≡ some e → outside leastEvidence oneᶠ (e .present) ≡ true → Fails s f b 5 m
-  -- 6: pair i names what is not there
-  unknownGrade : {i : ℕ} {q : Pair} → getElem? (b .pairs) i ≡ some q → b .grades ≤ q .grade → Fails s f b 6 i
-  unknownMarker : {i : ℕ} {q : Pair} → getElem? (b .pairs) i ≡ some q → length (b .markers) ≤ q .marker → Fails s f b 6 i
-  -- 7: pair i was given before, as pair j
-  again : {i : ℕ} {q : Pair} (j : ℕ) → j < i → getElem? (b .pairs) j ≡ some q → getElem? (b .pairs) i ≡ some q → Fails s f b 7 i
-  -- 8: marker m has over 128 grades
-  crowds : {m : ℕ} → m < length (b .markers) → 128 < length (gradesOf (b .pairs) m) → Fails s f b 8 m
+use Rattle.graph_laws.specs.FirstChecks.{Check, test, numberAt, firstOf, nothing, nth-lt, map-test, test-map, count-test, accepted-exactly, refused-exactly}
 
 -- ---- the checks as lists of tests, in the order of their numbers
 
-abbrev checks : Settings → Buffers → Bale → List (List Bool)
+abbrev pub checks : Settings → Buffers → Bale → List Check
 checks s f b =
-    (tooMany 1024 1024 8192 b ∷ [])
-    ∷ (tooSmall f b ∷ [])
-    ∷ map (outside leastProbability greatestProbability) (s .alpha ∷ s .beta ∷ s .prior ∷ [])
-    ∷ (badTolerance (s .tolerance) ∷ ltb 1000000 (s .loopLimit) ∷ [])
-    ∷ map badEvidence (b .markers)
-    ∷ map (unknownPair b) (b .pairs)
-    ∷ repeatedPairs [] (b .pairs)
-    ∷ map (tooManyGrades b) (markerNumbers b)
+    (1, tooMany 1024 1024 8192 b ∷ [])
+    ∷ (2, tooSmall f b ∷ [])
+    ∷ (3, map (outside leastProbability greatestProbability) (s .alpha ∷ s .beta ∷ s .prior ∷ []))
+    ∷ (4, badTolerance (s .tolerance) ∷ ltb 1000000 (s .loopLimit) ∷ [])
+    ∷ (5, map badEvidence (b .markers))
+    ∷ (6, map (unknownPair b) (b .pairs))
+    ∷ (7, repeatedPairs [] (b .pairs))
+    ∷ (8, map (tooManyGrades b) (markerNumbers b))
     ∷ []
 
-verdict-first : (s : Settings) (f : Buffers) (b : Bale) → verdict s f b ≡ firstOf 1 (checks s f b)
+pub verdict-first : (s : Settings) (f : Buffers) (b : Bale) → verdict s f b ≡ firstOf (checks s f b)
 unfolding verdict
 verdict-first s f b = refl
 
@@ -179,7 +148,7 @@ module _ (s : Settings) (f : Buffers) (b : Bale) where
       let r = count-test (tooManyGrades b) (length (b .markers)) p h in
       crowds (r .0) (ltb-true _ _ (r .1))
 
-  row : (n p : ℕ) → test (checks s f b) n p ≡ true → Fails s f b (suc n) p
+  pub row : (k p : ℕ) → test (checks s f b) k p ≡ true → Fails s f b (numberAt (checks s f b) k) p
   row zero p h = row1 p h
   row (suc zero) p h = row2 p h
   row (suc (suc zero)) p h = row3 p h
@@ -190,11 +159,11 @@ module _ (s : Settings) (f : Buffers) (b : Bale) where
   row (suc (suc (suc (suc (suc (suc (suc zero))))))) p h = row8 p h
   row (suc (suc (suc (suc (suc (suc (suc (suc n)))))))) p h = absurd (false≢true h)
 
-  -- and a row of the table is a test that is true: check n is list n - 1
-  abbrev Listed : ℕ → ℕ → Type 0
-  Listed n p = (k : ℕ) × (n ≡ suc k) × (test (checks s f b) k p ≡ true)
+  -- and a row of the table is a test that is true
+  abbrev pub Listed : ℕ → ℕ → Type 0
+  Listed n p = (k : ℕ) × (n ≡ numberAt (checks s f b) k) × (test (checks s f b) k p ≡ true)
 
-  listed : {n p : ℕ} → Fails s f b n p → Listed n p
+  pub listed : {n p : ℕ} → Fails s f b n p → Listed n p
   unfolding tooMany tooSmall workNeeded badEvidence unknownPair tooManyGrades
   listed (manyGrades l) = (0, refl, simp (lt-ltb _ _ l))
   listed (manyMarkers l) = (0, refl, simp (lt-ltb _ _ l, or-true))
@@ -222,24 +191,27 @@ module _ (s : Settings) (f : Buffers) (b : Bale) where
 
   -- accepted exactly if no check fails
   pub verdict-accepted : verdict s f b ≡ accepted ↔ ((n p : ℕ) → Fails s f b n p → ⊥)
-  verdict-accepted = accepted-exactly (Fails s f b) (checks s f b) (verdict s f b) (verdict-first s f b) row (λ n p. listed)
+  verdict-accepted = accepted-exactly (range 1 8) (Fails s f b) (checks s f b) (verdict s f b) (verdict-first s f b) refl row (λ n p. listed)
 
-  -- refused with number n and place p exactly if check n fails at p, at no lower place, and no check with a lower number fails
-  pub verdict-refused : (n p : ℕ) → verdict s f b ≡ refused n p ↔ First (Fails s f b) n p
-  verdict-refused = refused-exactly (Fails s f b) (checks s f b) (verdict s f b) (verdict-first s f b) row (λ n p. listed)
+  -- refused with number n and place p exactly if check n fails at p, at no lower place, and no check that is made before fails
+  pub verdict-refused : (n p : ℕ) → verdict s f b ≡ refused n p ↔ First (range 1 8) (Fails s f b) n p
+  verdict-refused = refused-exactly (range 1 8) (Fails s f b) (checks s f b) (verdict s f b) (verdict-first s f b) refl row (λ n p. listed)
 
   -- ---- a refusal's number and place are small
 
   abbrev Small : ℕ → ℕ → Type 0
   Small n p = (1 ≤ n) × (n ≤ 8) × (p < 8192)
 
-  small-marker : (n p : ℕ) → 1 < n → n ≤ 8 → ((m q : ℕ) → m < n → Fails s f b m q → ⊥) → p < length (b .markers) → Small n p
-  small-marker n p l u h k = let z : 1024 < length (b .markers) → ⊥ = λ x. h 1 0 l (manyMarkers x) in (omega arith, u, omega arith)
+  abbrev Earlier : ℕ → Type 0
+  Earlier n = (m q : ℕ) → indexOf eqb m (range 1 8) < indexOf eqb n (range 1 8) → Fails s f b m q → ⊥
 
-  small-pair : (n p : ℕ) → 1 < n → n ≤ 8 → ((m q : ℕ) → m < n → Fails s f b m q → ⊥) → p < length (b .pairs) → Small n p
-  small-pair n p l u h k = let z : 8192 < length (b .pairs) → ⊥ = λ x. h 1 0 l (manyPairs x) in (omega arith, u, omega arith)
+  small-marker : (n p : ℕ) → 1 ≤ n → n ≤ 8 → (1024 < length (b .markers) → ⊥) → p < length (b .markers) → Small n p
+  small-marker n p l u h k = (l, u, omega arith)
 
-  small : {n p : ℕ} → Fails s f b n p → ((m q : ℕ) → m < n → Fails s f b m q → ⊥) → Small n p
+  small-pair : (n p : ℕ) → 1 ≤ n → n ≤ 8 → (8192 < length (b .pairs) → ⊥) → p < length (b .pairs) → Small n p
+  small-pair n p l u h k = (l, u, omega arith)
+
+  small : {n p : ℕ} → Fails s f b n p → Earlier n → Small n p
   small (manyGrades l) h = omega arith
   small (manyMarkers l) h = omega arith
   small (manyPairs l) h = omega arith
@@ -254,12 +226,12 @@ module _ (s : Settings) (f : Buffers) (b : Bale) where
   small (badPrior x) h = omega arith
   small (tolerance x) h = omega arith
   small (limit x) h = omega arith
-  small (absent {m = m} {e = e} a x) h = small-marker 5 m (omega arith) (omega arith) h (nth-lt (b .markers) m e a)
-  small (present {m = m} {e = e} a x) h = small-marker 5 m (omega arith) (omega arith) h (nth-lt (b .markers) m e a)
-  small (unknownGrade {i = i} {q = q} a x) h = small-pair 6 i (omega arith) (omega arith) h (nth-lt (b .pairs) i q a)
-  small (unknownMarker {i = i} {q = q} a x) h = small-pair 6 i (omega arith) (omega arith) h (nth-lt (b .pairs) i q a)
-  small (again {i = i} {q = q} j l a x) h = small-pair 7 i (omega arith) (omega arith) h (nth-lt (b .pairs) i q x)
-  small (crowds {m = m} l x) h = small-marker 8 m (omega arith) (omega arith) h l
+  small (absent {m = m} {e = e} a x) h = small-marker 5 m (omega arith) (omega arith) (λ z. h 1 0 (omega arith) (manyMarkers z)) (nth-lt (b .markers) m e a)
+  small (present {m = m} {e = e} a x) h = small-marker 5 m (omega arith) (omega arith) (λ z. h 1 0 (omega arith) (manyMarkers z)) (nth-lt (b .markers) m e a)
+  small (unknownGrade {i = i} {q = q} a x) h = small-pair 6 i (omega arith) (omega arith) (λ z. h 1 0 (omega arith) (manyPairs z)) (nth-lt (b .pairs) i q a)
+  small (unknownMarker {i = i} {q = q} a x) h = small-pair 6 i (omega arith) (omega arith) (λ z. h 1 0 (omega arith) (manyPairs z)) (nth-lt (b .pairs) i q a)
+  small (again {i = i} {q = q} j l a x) h = small-pair 7 i (omega arith) (omega arith) (λ z. h 1 0 (omega arith) (manyPairs z)) (nth-lt (b .pairs) i q x)
+  small (crowds {m = m} l x) h = small-marker 8 m (omega arith) (omega arith) (λ z. h 1 0 (omega arith) (manyMarkers z)) l
 
   pub refused-small : (n p : ℕ) → verdict s f b ≡ refused n p → (1 ≤ n) × (n ≤ 8) × (p < 8192)
-  refused-small n p h = let x = verdict-refused n p .0 h in small (x .fails) (x .number)
+  refused-small n p h = let x = verdict-refused n p .0 h in small (x .fails) (x .earlier)

@@ -1,3 +1,4 @@
 -- What the exported functions answer, tied to the definition.
 pub mod Reply
 pub mod Matches
+pub mod AllPatterns

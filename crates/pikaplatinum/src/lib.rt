@@ -7,8 +7,11 @@ ghost use Rattle.pikaplatinum.specs.Reply.{replyTo, Answers, leastSizes}
 use zero_lookahead_belief_propagation::Outcome;
 use zero_lookahead_belief_propagation::calibrate_all_subgraphs;
 
+mod all_patterns;
 mod matches;
 
+pub use all_patterns::Patterns;
+pub use all_patterns::pikaplatinum_count_patterns;
 pub use matches::Matches;
 pub use matches::pikaplatinum_match_reads;
 

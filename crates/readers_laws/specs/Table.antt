@@ -15,7 +15,7 @@ use Rattle.definition.specs.Readers.{Read, readAt, lesser, fallsAt, falls, matc
 use Rattle.claims.specs.Matching.{InOrder, MatchFails, manyUpper, manyLower, smallBuffer, upperFalls, lowerFalls, Table}
 use Rattle.graph_laws.specs.Bools.{or-cases, or-left, or-right}
 use Rattle.graph_laws.specs.Lists.{length-count, count-at}
-use Rattle.graph_laws.specs.FirstChecks.{test, firstOf, count-test, accepted-none, accepted-exactly, refused-exactly}
+use Rattle.graph_laws.specs.FirstChecks.{Check, test, numberAt, firstOf, count-test, accepted-none, accepted-exactly, refused-exactly}
 
 -- ---- the lesser of two
 
@@ -63,18 +63,17 @@ fall-listed : (rs : List Read) (i : ℕ) → suc i < length rs → readAt rs (su
 unfolding fallsAt
 fall-listed rs i l h = fall-at rs (suc i) l ∙ lt-ltb _ _ h
 
--- ---- the checks as lists of tests: there are none with the numbers 3 to 9
+-- ---- the checks as lists of tests, in their order
 
-abbrev checks : List Read → List Read → ℕ → List (List Bool)
+abbrev checks : List Read → List Read → ℕ → List Check
 checks us ls size =
-    ((ltb 1024 (length us) || ltb 1024 (length ls)) ∷ [])
-    ∷ (ltb size (2 * lesser (length us) (length ls)) ∷ [])
-    ∷ [] ∷ [] ∷ [] ∷ [] ∷ [] ∷ [] ∷ []
-    ∷ (falls us ++ falls ls)
+    (1, (ltb 1024 (length us) || ltb 1024 (length ls)) ∷ [])
+    ∷ (2, ltb size (2 * lesser (length us) (length ls)) ∷ [])
+    ∷ (10, falls us ++ falls ls)
     ∷ []
 
 module _ (us ls : List Read) (size : ℕ) where
-  verdict-first : matchVerdict us ls size ≡ firstOf 1 (checks us ls size)
+  verdict-first : matchVerdict us ls size ≡ firstOf (checks us ls size)
   unfolding matchVerdict orRefused lowestPlace lowestPlaceFrom
   verdict-first = refl
 
@@ -110,32 +109,25 @@ module _ (us ls : List Read) (size : ℕ) where
           ∙ ap (λ (i : ℕ). getD (falls us ++ falls ls) i false) (let y : length (falls us) + (p - length us) ≡ p = omega (arith, length-falls us) in y)
           ∙ h))
 
-  row : (n p : ℕ) → test (checks us ls size) n p ≡ true → MatchFails us ls size (suc n) p
+  row : (k p : ℕ) → test (checks us ls size) k p ≡ true → MatchFails us ls size (numberAt (checks us ls size) k) p
   row zero p h = many p h
   row (suc zero) p h = small p h
-  row (suc (suc zero)) p h = absurd (false≢true h)
-  row (suc (suc (suc zero))) p h = absurd (false≢true h)
-  row (suc (suc (suc (suc zero)))) p h = absurd (false≢true h)
-  row (suc (suc (suc (suc (suc zero))))) p h = absurd (false≢true h)
-  row (suc (suc (suc (suc (suc (suc zero)))))) p h = absurd (false≢true h)
-  row (suc (suc (suc (suc (suc (suc (suc zero))))))) p h = absurd (false≢true h)
-  row (suc (suc (suc (suc (suc (suc (suc (suc zero)))))))) p h = absurd (false≢true h)
-  row (suc (suc (suc (suc (suc (suc (suc (suc (suc zero))))))))) p h = fallen p h
-  row (suc (suc (suc (suc (suc (suc (suc (suc (suc (suc n)))))))))) p h = absurd (false≢true h)
+  row (suc (suc zero)) p h = fallen p h
+  row (suc (suc (suc k))) p h = absurd (false≢true h)
 
-  listed : {n p : ℕ} → MatchFails us ls size n p → (k : ℕ) × (n ≡ suc k) × (test (checks us ls size) k p ≡ true)
+  listed : {n p : ℕ} → MatchFails us ls size n p → (k : ℕ) × (n ≡ numberAt (checks us ls size) k) × (test (checks us ls size) k p ≡ true)
   listed (manyUpper l) = (0, refl, or-left _ _ (lt-ltb _ _ l))
   listed (manyLower l) = (0, refl, or-right (ltb 1024 (length us)) _ (lt-ltb _ _ l))
   listed (smallBuffer a b) = (1, refl, lt-ltb _ _ (lesser-cases (λ n. size < 2 * n) (length us) (length ls) a b))
-  listed (upperFalls {i = i} l h) = (9, refl, List·getD-append (falls us) (falls ls) false (suc i) (omega (arith, l, length-falls us)) ∙ fall-listed us i l h)
+  listed (upperFalls {i = i} l h) = (2, refl, List·getD-append (falls us) (falls ls) false (suc i) (omega (arith, l, length-falls us)) ∙ fall-listed us i l h)
   listed (lowerFalls {j = j} l h) =
-      (9, refl, ap (λ (n : ℕ). getD (falls us ++ falls ls) (n + suc j) false) (sym (length-falls us)) ∙ getD-append-add (falls us) (falls ls) (suc j) false ∙ fall-listed ls j l h)
+      (2, refl, ap (λ (n : ℕ). getD (falls us ++ falls ls) (n + suc j) false) (sym (length-falls us)) ∙ getD-append-add (falls us) (falls ls) (suc j) false ∙ fall-listed ls j l h)
 
   -- ---- what an accepted call has
 
   module _ (h : matchVerdict us ls size ≡ accepted) where
     fine : (n p : ℕ) → MatchFails us ls size n p → ⊥
-    fine = accepted-none (MatchFails us ls size) (checks us ls size) (matchVerdict us ls size) verdict-first row (λ n p. listed) h
+    fine = accepted-none (1 ∷ 2 ∷ 10 ∷ []) (MatchFails us ls size) (checks us ls size) (matchVerdict us ls size) verdict-first refl row (λ n p. listed) h
 
     pub upper-fits : length us ≤ 1024
     upper-fits = let z : 1024 < length us → ⊥ = λ l. fine 1 0 (manyUpper l) in omega arith
@@ -157,6 +149,6 @@ module _ (us ls : List Read) (size : ℕ) where
 pub table : Table
 table us ls size =
     record {
-      accepts = accepted-exactly (MatchFails us ls size) (checks us ls size) (matchVerdict us ls size) (verdict-first us ls size) (row us ls size) (λ n p. listed us ls size);
-      refuses = refused-exactly (MatchFails us ls size) (checks us ls size) (matchVerdict us ls size) (verdict-first us ls size) (row us ls size) (λ n p. listed us ls size);
+      accepts = accepted-exactly (1 ∷ 2 ∷ 10 ∷ []) (MatchFails us ls size) (checks us ls size) (matchVerdict us ls size) (verdict-first us ls size) refl (row us ls size) (λ n p. listed us ls size);
+      refuses = refused-exactly (1 ∷ 2 ∷ 10 ∷ []) (MatchFails us ls size) (checks us ls size) (matchVerdict us ls size) (verdict-first us ls size) refl (row us ls size) (λ n p. listed us ls size);
     }

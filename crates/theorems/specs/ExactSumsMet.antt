@@ -8,7 +8,7 @@ use lib.IntN.{negsuc}
 use lib.ListN.{length, getD}
 use lib.Ieee.{fin, round, div, lt, le, eq, isNan, ofInt}
 use Rattle.definition.specs.Floats.{halfᶠ, oneᶠ, ratio}
-use Rattle.definition.specs.Lists.{range}
+use Rattle.definition.specs.Lists.{range, patterns}
 use Rattle.definition.specs.Vectors.{Message, binary}
 use Rattle.definition.specs.Settings.{Settings}
 use Rattle.definition.specs.FactorGraph.{builtGraph, Bale, Node, isTree}
@@ -46,5 +46,5 @@ pub record Met : Type 0 where
   pub to-grade : map (gradeSum counted halves 1) (range 0 2) ≡ 6 * 2 ^ 295 ∷ 5 * 2 ^ 295 ∷ []
 
 pub met : Met
-unfolding round div lt le eq isNan ofInt builtGraph walk components componentsOf subgraph subgraphOf edgeAt directionTo directionsTo firstsIncoming directionFrom messageNodesFrom messageGraph messageGraphOf outside tooMany workNeeded tooSmall badTolerance badEvidence unknownPair equalPairs lowestPlaceFrom lowestPlace isAmong repeatedPairs tooManyGrades orRefused verdict
+unfolding patterns round div lt le eq isNan ofInt builtGraph walk components componentsOf subgraph subgraphOf edgeAt directionTo directionsTo firstsIncoming directionFrom messageNodesFrom messageGraph messageGraphOf outside tooMany workNeeded tooSmall badTolerance badEvidence unknownPair equalPairs lowestPlaceFrom lowestPlace isAmong repeatedPairs tooManyGrades orRefused verdict
 met = record { accepted = record { accepts = refl; stands = refl }; a-tree = tt; of-three = refl; to-factor = refl; to-grade = refl }

@@ -19,7 +19,8 @@ pub use Rattle.graph_laws.specs.AnswerSizes.{AnswerSizes, answer-sizes}
 pub use Rattle.graph_laws.specs.CallLengths.{SameLengths, call-lengths, call-refused, call-accepted, call-counts}
 -- The verdict refuses with the first cause of document 01's table, and accepts exactly if there is none.
 pub use Rattle.claims.specs.First.{First}
-pub use Rattle.graph_laws.specs.Refused.{Fails, verdict-refused, verdict-accepted}
+pub use Rattle.claims.specs.Refused.{Fails}
+pub use Rattle.graph_laws.specs.Refused.{verdict-refused, verdict-accepted}
 -- Beliefs, residuals and amounts are finite binary32 values, and their printed bits determine them.
 pub use Rattle.message_bounds.specs.Beliefs.{beliefs-in-unit}
 pub use Rattle.message_bounds.specs.Amounts.{run-amounts, endings-bounded}

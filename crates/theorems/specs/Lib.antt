@@ -1,5 +1,6 @@
 pub mod Demand3
 pub mod TwoReaders
+pub mod AllPatterns
 pub mod Facts
 pub mod ExactSums
 pub mod ExactSumsMet

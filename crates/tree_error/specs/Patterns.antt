@@ -7,9 +7,8 @@ use native.Mathlib.Nat.{mul-comm, mul-assoc, zero-add, add-zero, add-suc, suc-ad
 use native.Mathlib.Omega.{arith}
 use lib.Dec.{eqb, eqb·zero-suc, eqb·suc-zero, eqb·suc-suc}
 use lib.ListN.{length}
-use Rattle.definition.specs.Lists.{range, filter, consIf}
+use Rattle.definition.specs.Lists.{range, filter, consIf, patterns}
 use Rattle.definition.specs.Vectors.{Message, entry}
-use Rattle.claims.specs.Patterns.{patterns}
 use Rattle.claims.specs.ExactSums.{units, digit, presentCount, presence, product, without, sumOver, factorSum, gradeSum}
 use Rattle.tree_error.specs.Weights.{Leaf, weight, like, like-same, sumBelow, sum-same}
 use Rattle.tree_error.specs.Layers.{counts, leafOf}
@@ -43,6 +42,7 @@ sum-begun f g b a (p ∷ ps) e = omega (arith, e p, sum-begun f g b a ps e)
 -- of all patterns of one grade more, where that grade's presence is a factor
 sum-grade : (n : ℕ) (f : Pattern → ℕ) (a : Bool → ℕ) (g : Bool → Pattern → ℕ) → ((b : Bool) (p : Pattern) → f (b ∷ p) ≡ a b * g b p)
     → sumOver f (patterns (suc n)) ≡ a false * sumOver (g false) (patterns n) + a true * sumOver (g true) (patterns n)
+unfolding patterns
 sum-grade n f a g e =
     omega (
       arith,
@@ -100,7 +100,7 @@ whole : (ℕ → ℕ) → List Message → Pattern → ℕ
 whole F ms p = product p ms * F (presentCount p)
 
 whole-sum : (F : ℕ → ℕ) (ms : List Message) → sumOver (whole F ms) (patterns (length ms)) ≡ like F (map leafOf ms) 0
-unfolding whole
+unfolding whole patterns
 whole-sum F [] = omega arith
 whole-sum F (m ∷ ms) =
     let at : (d : ℕ) → sumOver (whole (λ (u : ℕ). F (d + u)) ms) (patterns (length ms)) ≡ like F (map leafOf ms) (d + 0) =
