@@ -10,20 +10,17 @@ mod scan;
 
 use buffer::Buffer;
 use library::{Reply, match_reads};
-use measure::{median, peak_stack};
+use measure::{median, milliseconds, peak_stack};
 use oracle::belt::{Belt, Read, matches};
 use oracle::limits::MOST_READS;
 use oracle::random::Random;
 use scan::scan;
 use std::hint::black_box;
-use std::time::Instant;
 
 const ROUNDS: usize = 1_001;
 
-fn microseconds(mut work: impl FnMut()) -> f64 {
-    let begun = Instant::now();
-    work();
-    begun.elapsed().as_nanos() as f64 / 1e3
+fn microseconds(work: impl FnOnce()) -> f64 {
+    1e3 * milliseconds(work)
 }
 
 /// The library's matches, which all three sides give.

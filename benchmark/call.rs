@@ -9,12 +9,11 @@ mod library;
 mod measure;
 
 use library::{Buffers, calibrate};
-use measure::{median, peak_stack};
+use measure::{median, milliseconds, peak_stack};
 use oracle::call::{Call, Lent, Outcome, Settings, call};
 use oracle::random::Random;
 use oracle::shapes::{Graph, Room, chain, complete, cycle, random_pairs};
 use std::hint::black_box;
-use std::time::Instant;
 
 const ROUNDS: usize = 7;
 
@@ -39,12 +38,6 @@ fn steps_of(outcome: &Outcome) -> u64 {
         Outcome::Refused(_) => 0,
         Outcome::Answered { endings, .. } => endings.iter().map(|part| u64::from(part.steps)).sum(),
     }
-}
-
-fn milliseconds(mut work: impl FnMut()) -> f64 {
-    let begun = Instant::now();
-    work();
-    begun.elapsed().as_nanos() as f64 / 1e6
 }
 
 /// One line of the table: times, ratio, steps.

@@ -1,6 +1,13 @@
-//! What the benchmarks of the library's calls share: medians and the stack.
+//! What the benchmarks of the library's calls share: times, medians and the stack.
 
 use std::hint::black_box;
+use std::time::Instant;
+
+pub fn milliseconds(work: impl FnOnce()) -> f64 {
+    let begun = Instant::now();
+    work();
+    begun.elapsed().as_nanos() as f64 / 1e6
+}
 
 pub fn median(mut times: Vec<f64>) -> f64 {
     times.sort_by(f64::total_cmp);

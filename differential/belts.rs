@@ -7,14 +7,12 @@ mod small;
 mod totals;
 
 use crate::buffer::{Buffer, UNTOUCHED};
-use crate::threads::on_all_threads;
+use crate::seeds::Kind;
 use library::{Reply, match_reads};
 use oracle::belt::{Belt, Match, matches, reads_of};
 use oracle::generate_belts::any_belt;
 use oracle::longest::longest;
-use oracle::random::Random;
 use oracle::refusal::Refusal;
-use std::time::Instant;
 use totals::Totals;
 
 type Outcome = Result<Vec<Match>, Refusal>;
@@ -57,36 +55,19 @@ fn report(belt: &Belt) {
     }
 }
 
-fn ended(what: &str, totals: &Totals, failing: Option<Belt>) -> bool {
-    println!("{what}\n{totals}");
-    failing.iter().for_each(report);
-    failing.is_none()
-}
+const BELTS: Kind<Belt, Totals> = Kind {
+    name: "belts",
+    draw: any_belt,
+    compared,
+    add: Totals::add,
+    count: |totals| totals.belts,
+    report,
+};
 
 pub fn all_small() -> bool {
-    let mut totals = Totals::default();
-    let failing = small::belts().find(|belt| !compared(belt, &mut totals));
-    ended("all belts of up to 3 reads a side, ticks and windows 0 to 3, 2 markers", &totals, failing)
-}
-
-/// Seeds from `first` on, every `step`-th.
-fn share(first: u64, step: u64, end: u64) -> (Totals, Option<Belt>) {
-    let mut totals = Totals::default();
-    for seed in (first..end).step_by(step as usize) {
-        let belt = any_belt(&mut Random::new(seed));
-        if !compared(&belt, &mut totals) {
-            return (totals, Some(belt));
-        }
-    }
-    (totals, None)
+    BELTS.listed("all belts of up to 3 reads a side, ticks and windows 0 to 3, 2 markers", small::belts())
 }
 
 pub fn random(seed: u64, count: u64) -> bool {
-    let begun = Instant::now();
-    let shares = on_all_threads(|i, threads| share(seed + i, threads, seed.saturating_add(count)));
-    let mut totals = Totals::default();
-    shares.iter().for_each(|(own, _)| totals.add(own));
-    let failing = shares.into_iter().find_map(|(_, belt)| belt);
-    let rate = totals.belts as f64 / begun.elapsed().as_secs_f64();
-    ended(&format!("belts, seeds from {seed} on: {rate:.0} a second"), &totals, failing)
+    BELTS.random(seed, count)
 }

@@ -31,7 +31,7 @@ fn expected_reply(outcome: &Outcome) -> Reply {
 }
 
 /// The work that document 01 has the caller lend.
-fn work_needed(call: &Call) -> usize {
+pub fn work_needed(call: &Call) -> usize {
     64 * (call.grades as usize + call.marker_count() + call.pair_count()) + 4096
 }
 

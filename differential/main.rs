@@ -5,6 +5,8 @@ mod buffer;
 mod compare;
 mod hostile;
 mod library;
+mod patterns;
+mod seeds;
 mod shrink;
 mod small;
 mod threads;
@@ -121,10 +123,11 @@ fn main() {
         }
         Some("alone") => alone(seed, count),
         Some("belts") => belts::all_small() && belts::random(seed, count),
+        Some("patterns") => patterns::listed() && patterns::random(seed, count),
         Some("seconds") => random_calls("any", seed, u64::MAX, Some(number(words.get(2), 60))),
         Some(kind @ ("any" | "accepted" | "hostile" | "limits")) => random_calls(kind, seed, count, None),
         _ => {
-            eprintln!("differential small | alone|belts SEED COUNT | any|accepted|wide|hostile|limits SEED COUNT | seconds SEED SECONDS");
+            eprintln!("differential small | alone|belts|patterns SEED COUNT | any|accepted|wide|hostile|limits SEED COUNT | seconds SEED SECONDS");
             std::process::exit(2);
         }
     };

@@ -1,27 +1,59 @@
 //! The smallest failing call that leaving things out leads to.
 
 use oracle::call::{Call, Lent};
+use std::ops::Range;
 
-fn without_pair(call: &Call, i: usize) -> Call {
+/// Runs of a list: long ones first, else a full list takes long; of a huge count no short ones.
+pub fn runs(count: usize) -> impl Iterator<Item = Range<usize>> {
+    let lengths = (0..=12).map(move |i| count >> i).take_while(|&length| length > 0);
+    lengths.flat_map(move |length| (0..count).step_by(length).map(move |first| first..count.min(first + length)))
+}
+
+/// The pairs whose grade (end 0) or marker (end 1) is not gone, numbered anew.
+fn pairs_left(call: &Call, end: usize, gone: &Range<usize>) -> Vec<u32> {
+    let kept = call.pairs.chunks_exact(2).filter(|pair| !gone.contains(&(pair[end] as usize)));
+    let renumbered = |pair: &[u32]| {
+        let mut ends = [pair[0], pair[1]];
+        ends[end] -= if ends[end] as usize >= gone.end { gone.len() as u32 } else { 0 };
+        ends
+    };
+    kept.flat_map(renumbered).collect()
+}
+
+fn without_pairs(call: &Call, gone: Range<usize>) -> Call {
     let mut less = call.clone();
-    less.pairs.drain(2 * i..2 * i + 2);
+    less.pairs.drain(2 * gone.start..2 * gone.end);
     less
 }
 
-fn without_marker(call: &Call, m: usize) -> Call {
-    let mut less = call.clone();
-    less.evidence.drain(2 * m..2 * m + 2);
-    let kept = call.pairs.chunks_exact(2).filter(|p| p[1] as usize != m);
-    less.pairs = kept.flat_map(|p| [p[0], p[1] - u32::from(p[1] as usize > m)]).collect();
+fn without_markers(call: &Call, gone: Range<usize>) -> Call {
+    let mut less = Call { pairs: pairs_left(call, 1, &gone), ..call.clone() };
+    less.evidence.drain(2 * gone.start..2 * gone.end);
     less
 }
 
-fn without_grade(call: &Call, g: u32) -> Call {
+fn without_grades(call: &Call, gone: Range<usize>) -> Call {
+    let grades = call.grades - gone.len() as u32;
+    Call { grades, pairs: pairs_left(call, 0, &gone), ..call.clone() }
+}
+
+/// Without odd last entries.
+fn without_odd(call: &Call) -> Option<Call> {
     let mut less = call.clone();
-    less.grades -= 1;
-    let kept = call.pairs.chunks_exact(2).filter(|p| p[0] != g);
-    less.pairs = kept.flat_map(|p| [p[0] - u32::from(p[0] > g), p[1]]).collect();
-    less
+    less.evidence.truncate(2 * call.marker_count());
+    less.pairs.truncate(2 * call.pair_count());
+    let odd = call.evidence.len() % 2 + call.pairs.len() % 2;
+    (odd > 0).then_some(less)
+}
+
+fn with_lower_limit(call: &Call) -> impl Iterator<Item = Call> {
+    let limit = call.settings.loop_limit;
+    let lower = [limit / 2, limit.saturating_sub(1)].into_iter().filter(move |&lower| lower < limit);
+    lower.map(|loop_limit| {
+        let mut less = call.clone();
+        less.settings.loop_limit = loop_limit;
+        less
+    })
 }
 
 /// The buffers keep what they have over, or lack of, the sizes that the counts need.
@@ -40,24 +72,21 @@ fn resized(mut call: Call, from: &Call) -> Call {
     call
 }
 
-fn smaller(call: &Call) -> Vec<Call> {
-    let mut all: Vec<Call> = (0..call.pair_count()).map(|i| without_pair(call, i)).collect();
-    all.extend((0..call.marker_count()).map(|m| without_marker(call, m)));
-    all.extend((0..call.grades).map(|g| without_grade(call, g)));
-    let mut limit = call.clone();
-    limit.settings.loop_limit = call.settings.loop_limit / 2;
-    let mut less = call.clone();
-    less.settings.loop_limit = call.settings.loop_limit.saturating_sub(1);
-    if call.settings.loop_limit > 0 {
-        all.extend([limit, less]);
-    }
-    all.into_iter().map(|less| resized(less, call)).collect()
+fn smaller(call: &Call) -> impl Iterator<Item = Call> {
+    let pairs = runs(call.pair_count()).map(|gone| without_pairs(call, gone));
+    let markers = runs(call.marker_count()).map(|gone| without_markers(call, gone));
+    let grades = runs(call.grades as usize).map(|gone| without_grades(call, gone));
+    let all = pairs.chain(markers).chain(grades).chain(without_odd(call)).chain(with_lower_limit(call));
+    all.map(move |less| resized(less, call))
 }
 
 pub fn shrink(call: &Call, fails: impl Fn(&Call) -> bool) -> Call {
     let mut least = call.clone();
-    while let Some(less) = smaller(&least).into_iter().find(&fails) {
+    loop {
+        let found = smaller(&least).find(&fails);
+        let Some(less) = found else {
+            return least;
+        };
         least = less;
     }
-    least
 }

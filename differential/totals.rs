@@ -18,7 +18,7 @@ pub struct Totals {
 }
 
 /// The shape of an accepted call's graph; a tree is a marker of at least two grades.
-fn kind_of_graph(call: &Call) -> &'static str {
+pub fn kind_of_graph(call: &Call) -> &'static str {
     let pairs: Vec<&[u32]> = call.pairs.chunks_exact(2).collect();
     let mut grades_of = vec![0; call.marker_count()];
     pairs.iter().for_each(|p| grades_of[p[1] as usize] += 1);

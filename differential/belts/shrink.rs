@@ -1,5 +1,6 @@
 //! The smallest failing belt that leaving out reads and lessening numbers lead to.
 
+use crate::shrink::runs;
 use oracle::belt::Belt;
 
 /// The buffer keeps what it has over, or lacks of, the size that the reads need.
@@ -12,14 +13,12 @@ fn lists(belt: &mut Belt) -> [&mut Vec<u32>; 2] {
     [&mut belt.upper, &mut belt.lower]
 }
 
-/// Without a run of reads of one list: long runs first, else a full belt takes long.
+/// Without a run of reads of one list.
 fn without_reads(belt: &Belt, side: usize) -> impl Iterator<Item = Belt> {
     let count = [belt.upper_count(), belt.lower_count()][side];
-    let lengths = (0..usize::BITS).map(move |i| count >> i).take_while(|&length| length > 0);
-    let runs = lengths.flat_map(move |length| (0..count).step_by(length).map(move |first| (first, count.min(first + length))));
-    runs.map(move |(first, end)| {
+    runs(count).map(move |gone| {
         let mut less = belt.clone();
-        lists(&mut less)[side].drain(2 * first..2 * end);
+        lists(&mut less)[side].drain(2 * gone.start..2 * gone.end);
         resized(less, belt)
     })
 }

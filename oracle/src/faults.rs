@@ -4,6 +4,15 @@ use crate::call::{Call, Lent};
 use crate::limits::*;
 use crate::random::Random;
 
+/// One to three of these checks, the later ones first: the earlier ones' faults change the counts.
+pub(crate) fn some_of(random: &mut Random, checks: &[u32]) -> Vec<u32> {
+    let mut places: Vec<usize> = (0..checks.len()).collect();
+    random.shuffle(&mut places);
+    places.truncate(random.within(1, 3));
+    places.sort_by(|left, right| right.cmp(left));
+    places.into_iter().map(|place| checks[place]).collect()
+}
+
 /// Puts in a fault that check `number` refuses, if the call has room for one.
 pub fn put_in(random: &mut Random, call: &mut Call, number: u32) {
     match number {

@@ -83,7 +83,7 @@ fn evidence(random: &mut Random) -> [f32; 2] {
 }
 
 /// A graph as a call that no check refuses.
-fn call_of(random: &mut Random, graph: &Graph) -> Call {
+pub(crate) fn call_of(random: &mut Random, graph: &Graph) -> Call {
     let mut call = Call {
         settings: settings(random),
         grades: graph.grades as u32,
@@ -128,11 +128,7 @@ pub fn wide_call(random: &mut Random) -> Call {
 pub fn any_call(random: &mut Random) -> Call {
     let mut call = accepted_call(random);
     if random.once_in(2) {
-        let mut numbers: Vec<u32> = (1..=8).collect();
-        random.shuffle(&mut numbers);
-        numbers.truncate(random.within(1, 3));
-        // The higher checks first: the lower faults change the counts.
-        numbers.sort_by(|left, right| right.cmp(left));
+        let numbers = faults::some_of(random, &[1, 2, 3, 4, 5, 6, 7, 8]);
         numbers.iter().for_each(|&number| faults::put_in(random, &mut call, number));
     }
     call

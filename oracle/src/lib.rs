@@ -1,5 +1,5 @@
 //! The reference Rust with document 01's stand-ins, behind document 01's call,
-//! and a reference for document 02's belts.
+//! and references for document 02's belts and read patterns.
 
 pub mod alone;
 pub mod bale;
@@ -7,14 +7,18 @@ pub mod belt;
 pub mod call;
 pub mod faults;
 pub mod faults_of_belts;
+pub mod faults_of_patterns;
 pub mod generate;
 pub mod generate_belts;
 pub mod generate_files;
+pub mod generate_patterns;
 pub mod graph;
 pub mod hooks;
 pub mod limits;
+pub mod listed_patterns;
 pub mod log_table;
 pub mod longest;
+pub mod patterns;
 pub mod pieces;
 pub mod queue;
 pub mod random;
@@ -22,6 +26,7 @@ pub mod refusal;
 pub mod selfcheck;
 mod selfcheck_belts;
 mod selfcheck_calls;
+mod selfcheck_patterns;
 pub mod shapes;
 pub mod standins;
 pub mod text;

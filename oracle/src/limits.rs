@@ -1,4 +1,4 @@
-//! The limits of document 01, and document 02's of reads.
+//! The limits of document 01, and document 02's of reads and patterns.
 
 /// The longest vector for a direct convolution, as S-18 has it; the Rust's own is 64.
 pub const DIRECT_CONVOLUTION_MAX_LEN: usize = 256;
@@ -11,6 +11,9 @@ pub const MOST_LOOPS: u32 = 1_000_000;
 
 /// Of either of the two readers over one belt.
 pub const MOST_READS: usize = 1024;
+
+/// Of a graph whose read patterns are all run.
+pub const MOST_PATTERN_MARKERS: usize = 10;
 
 /// The program that reads a bale file takes fewer.
 pub const PROGRAM_GRADES: usize = 24;

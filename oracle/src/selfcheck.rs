@@ -10,6 +10,7 @@ use crate::queue::{OrderedFloat, PriorityQueue};
 use crate::random::Random;
 use crate::selfcheck_belts::belts;
 use crate::selfcheck_calls::{edges_of_range, graphs, order_of_refusals, refusals, wide_marks};
+use crate::selfcheck_patterns::patterns;
 use crate::standins::{exp, powi};
 use crate::text::{read_call, write_call, write_outcome};
 use crate::tree::tree_messages;
@@ -42,6 +43,7 @@ pub fn run() -> bool {
     files(&mut tally);
     generated(&mut tally);
     belts(&mut tally);
+    patterns(&mut tally);
     println!("{} passed, {} failed", tally.passed, tally.failed);
     tally.failed == 0
 }

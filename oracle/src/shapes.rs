@@ -55,7 +55,7 @@ impl Graph {
     }
 
     /// The same graph, its grades, markers and pairs numbered at random.
-    fn shuffle(&mut self, random: &mut Random) {
+    pub fn shuffle(&mut self, random: &mut Random) {
         let mut grades: Vec<usize> = (0..self.grades).collect();
         let mut markers: Vec<usize> = (0..self.markers).collect();
         random.shuffle(&mut grades);

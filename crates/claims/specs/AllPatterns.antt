@@ -3,7 +3,7 @@
 use Prim.Native.Nat.{ℕ, _+_, _*_, _^_, _<_}
 use mathlib.Core.Path.{_≡_}
 use mathlib.Core.Logic.{_↔_}
-use mathlib.Core.Bool.{Bool}
+use mathlib.Core.Bool.{Bool, true, false}
 use mathlib.Core.List.{List, [], _∷_}
 use lib.Ieee.{Float}
 use lib.ListN.{length, getD, replicate}
@@ -15,6 +15,7 @@ use Rattle.definition.specs.Refusals.{accepted, refused, workNeeded, baleOf, ve
 use Rattle.definition.specs.Call.{overwrite}
 use Rattle.definition.specs.Reads.{withReads, presentUnder}
 use Rattle.definition.specs.Patterns.{isAbove, isNotAbove, isMissing, patternCounts, PatternBuffers, ampleFor, patternVerdict, PatternLent, patternSizes, reported, patternRefused, patternCall}
+use Rattle.claims.specs.Parts.{inPair}
 use Rattle.claims.specs.First.{First}
 use Rattle.claims.specs.Refused.{Fails}
 
@@ -37,6 +38,14 @@ pub record ReportCounted (s : Settings) (b : Bale) : Type 0 where
 
 abbrev pub PatternsCounted : Type 0
 PatternsCounted = (s : Settings) (b : Bale) → ReportCounted s b
+
+-- Of an accepted call: a grade in no pair has no belief in any pattern, and any other has one in every pattern.
+pub record MissingIsUnpaired (s : Settings) (b : Bale) (g : ℕ) : Type 0 where
+  pub unpaired : inPair b g ≡ false → reportedAt s b (3 * g + 2) ≡ 2 ^ length (b .markers)
+  pub paired : inPair b g ≡ true → reportedAt s b (3 * g + 2) ≡ 0
+
+abbrev pub UnpairedMissing : Type 0
+UnpairedMissing = (s : Settings) (f : PatternBuffers) (b : Bale) → patternVerdict s f b ≡ accepted → (g : ℕ) → g < b .grades → MissingIsUnpaired s b g
 
 -- ---- (2) where the call is accepted, so is the bale under every pattern, with room for its answer: no refusal is counted as 'no belief'
 

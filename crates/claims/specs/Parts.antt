@@ -1,16 +1,17 @@
--- What the claims speak of: a part of an accepted call, its nodes, positions and messages by number, and floats that binary32 has.
+-- What the claims speak of: a part of an accepted call, its nodes, positions and messages by number, a grade in a pair, and floats that binary32 has.
 use Prim.Native.Nat.{ℕ}
 use mathlib.Core.Path.{_≡_}
-use mathlib.Core.Bool.{_&&_}
+use mathlib.Core.Bool.{Bool, _&&_}
 use mathlib.Core.Option.{Option, none, some}
-use mathlib.Core.List.{List, [], _∷_}
-use lib.Dec.{T}
+use mathlib.Core.List.{List, [], _∷_, map}
+use lib.Dec.{T, eqb}
 use lib.Ieee.{binary32, le, fits}
 use lib.ListN.{length, getD, getElem?}
 use Rattle.definition.specs.Floats.{c, oneᶠ}
+use Rattle.definition.specs.Lists.{mem}
 use Rattle.definition.specs.Vectors.{Message}
 use Rattle.definition.specs.Settings.{Settings}
-use Rattle.definition.specs.FactorGraph.{Evidence, Bale, Node, grade}
+use Rattle.definition.specs.FactorGraph.{Evidence, Pair, Bale, Node, grade}
 use Rattle.definition.specs.Components.{Subgraph, SubgraphNode, componentsOf}
 use Rattle.definition.specs.Refusals.{Buffers, accepted, verdict}
 
@@ -18,6 +19,10 @@ use Rattle.definition.specs.Refusals.{Buffers, accepted, verdict}
 pub record AcceptedPart (s : Settings) (f : Buffers) (b : Bale) (n : ℕ) (p : List Node) : Type 0 where
   pub accepts : verdict s f b ≡ accepted
   pub stands : getElem? (componentsOf b) n ≡ some p
+
+-- the grade stands in a pair
+abbrev pub inPair : Bale → ℕ → Bool
+inPair b g = mem eqb g (map (λ (q : Pair). q .grade) (b .pairs))
 
 -- ---- the given floats are binary32 values
 

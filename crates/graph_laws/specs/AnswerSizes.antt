@@ -42,7 +42,7 @@ gradesAmong (factorNode m ∷ ns) = gradesAmong ns
 gradesAmong (inputNode m ∷ ns) = gradesAmong ns
 gradesAmong (treeNode m ∷ ns) = gradesAmong ns
 
-mem-among : (g : ℕ) (ns : List Node) → mem eqb g (gradesAmong ns) ≡ mem eqNode (gradeNode g) ns
+pub mem-among : (g : ℕ) (ns : List Node) → mem eqb g (gradesAmong ns) ≡ mem eqNode (gradeNode g) ns
 mem-among g [] = refl
 mem-among g (gradeNode h ∷ ns) = ap (λ (c : Bool). eqb g h || c) (mem-among g ns)
 mem-among g (factorNode m ∷ ns) = mem-among g ns
@@ -100,7 +100,7 @@ module _ (b : Bale) (ok : Valid b) (p : List Node) (is : Locality.Part b ok p) w
   near u es e h =
       subst (λ (l : List (Edge Node)). All Has (map (otherEnd eqNode u) l)) e (closed-of-both eqNode eqNode-sound eqNode-same p (builtEdges b) both u h)
 
-  part-once : NoDup eqNode p
+  pub part-once : NoDup eqNode p
   unfolding builtGraph
   part-once = subst (NoDup eqNode) (is .is) (part-nodup eqNode eqNode-sound eqNode-same (builtGraph b) (built-inside b ok) (is .done) (is .root))
 

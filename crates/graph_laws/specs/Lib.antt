@@ -45,13 +45,14 @@ pub mod SentByTrees
 pub mod Highest
 pub mod InRange
 pub mod Linked
--- What the public call needs of an answer: connected parts, counts, lengths, refusals.
+-- What the public call needs of an answer: connected parts, counts, lengths, refusals; which grades have a belief.
 pub mod Connected
 pub mod Subsets
 pub mod AnswerSizes
+pub mod Paired
 pub mod Overwriting
 pub mod CallLengths
 pub mod FirstChecks
 pub mod Refused
--- The presence patterns over which an exact sum runs.
+-- All patterns: of grades that are present, of markers that are strongly read.
 pub mod Patterns

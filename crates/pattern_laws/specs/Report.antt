@@ -1,5 +1,5 @@
 -- The report: where each number stands, and that the three of a grade add up.
-use Prim.Native.Nat.{ℕ, zero, suc, _+_, _*_, _^_, _<_}
+use Prim.Native.Nat.{ℕ, zero, suc, _+_, _*_, _<_}
 use native.Mathlib.Omega.{arith}
 use mathlib.Core.Path.{_≡_, refl, ap, _∙_, subst}
 use mathlib.Core.Bool.{Bool, true, false, not}
@@ -12,7 +12,7 @@ use Rattle.definition.specs.Settings.{Settings}
 use Rattle.definition.specs.FactorGraph.{Bale}
 use Rattle.definition.specs.Reads.{aboveHalf, presentUnder}
 use Rattle.definition.specs.Patterns.{isAbove, isNotAbove, isMissing, patternCount, patternCounts}
-use Rattle.claims.specs.AllPatterns.{reportedAt, GradeCounted, PatternsCounted}
+use Rattle.claims.specs.AllPatterns.{GradeCounted, PatternsCounted}
 use Rattle.graph_laws.specs.Patterns.{length-patterns}
 
 -- ---- three numbers a grade

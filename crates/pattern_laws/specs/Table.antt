@@ -1,7 +1,7 @@
 -- The table of refusals of a call over all read patterns: refused with the first cause, 18 ahead of all others, and accepted exactly if there is none.
-use Prim.Native.Nat.{ℕ, zero, suc, _+_, _*_, _≤_, _<_}
+use Prim.Native.Nat.{ℕ, zero, suc, _+_, _*_}
 use native.Mathlib.Omega.{arith}
-use mathlib.Core.Path.{_≡_, refl, sym, ap, _∙_}
+use mathlib.Core.Path.{_≡_, refl, ap, _∙_}
 use mathlib.Core.Logic.{_⊎_, inl, inr}
 use mathlib.Core.Bool.{Bool, true, false, _||_, false≢true}
 use mathlib.Core.Option.{Option, none}
@@ -20,7 +20,7 @@ use Rattle.claims.specs.AllPatterns.{PatternFails, manyMarkers, shortReport, as
 use Rattle.graph_laws.specs.Bools.{or-cases, or-left, or-right}
 use Rattle.graph_laws.specs.Accepted.{nowhere}
 use Rattle.graph_laws.specs.FirstChecks.{Check, test, numberAt, firstOf, accepted-none, accepted-exactly, refused-exactly}
-use Rattle.graph_laws.specs.Refused.{checks, row, Listed, listed}
+use Rattle.graph_laws.specs.Refused.{checks, row, listed}
 use Rattle.pattern_laws.specs.Under.{good-reads, all-weak-markers}
 
 -- ---- the checks as lists of tests, in their order

@@ -5,7 +5,7 @@ use mathlib.Core.Path.{_≡_, refl, sym, ap, _∙_}
 use mathlib.Core.Bool.{Bool, true, false}
 use mathlib.Core.Option.{Option, none, some}
 use mathlib.Core.List.{List, [], _∷_, _++_}
-use borrow.Author.Tests.{eqb-true, eqb-false, ne-eqb}
+use borrow.Author.Tests.{eqb-true, eqb-false}
 use lib.Dec.{eqb}
 use lib.Ieee.{Float}
 use lib.ListN.{length, getD, set, drop, length-set}
@@ -18,6 +18,7 @@ use Rattle.graph_laws.specs.Lists.{All}
 use Rattle.graph_laws.specs.Ranks.{NoDup}
 use Rattle.graph_laws.specs.AnswerSizes.{TwoFloats}
 use Rattle.definition.specs.Reads.{aboveHalf, presentOf}
+use Rattle.pattern_laws.specs.Missing.{not-among}
 use Rattle.patterns.specs.Tally.{sideAt, side-small, HasRoom, moved, moved-long, tallied, Movable}
 
 -- number j of grade h's row
@@ -107,13 +108,6 @@ module _ (x : Belief) (xs : List Belief) (h : ℕ) where
   present-other : eqb (x .grade) h ≡ false → presentOf (x ∷ xs) h ≡ presentOf xs h
   unfolding presentOf
   present-other e = ap (λ (c : Bool). elim c [ true ↦ some (entry 1 (x .value)) | false ↦ presentOf xs h ]) e
-
-not-among : (g : ℕ) (xs : List Belief) → mem eqb g (beliefNumbers xs) ≡ false → presentOf xs g ≡ none
-unfolding presentOf beliefNumbers
-not-among g [] e = refl
-not-among g (x ∷ xs) e =
-    let o = or-no (eqb g (x .grade)) (mem eqb g (beliefNumbers xs)) e in
-    present-other x xs g (ne-eqb (x .grade) g (λ q. eqb-false g (x .grade) (o .0) (sym q))) ∙ not-among g xs (o .1)
 
 -- each grade has at most one belief, so its row moves once
 pub tally-row :

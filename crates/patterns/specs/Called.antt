@@ -73,9 +73,9 @@ module _ (s : Settings) (g : ℕ) (es : List Float) (ps : List ℕ) (l : Pattern
     unfolding patternCall baleOf
     call-is = call-same g (pairsOf ps) (markersOf es) _ (length-markers es ∙ sym few ∙ sym (markers-many g m 0 ps)) s l (patternSizes l)
 
-    pub call-declined : (n p : ℕ) → refused n p ≡ patternVerdict s (patternSizes l) (patternBale g m 0 ps) → patternResultWith (Refused n p) l ≡ patternCall s g es ps l
+    pub call-refused : (n p : ℕ) → refused n p ≡ patternVerdict s (patternSizes l) (patternBale g m 0 ps) → patternResultWith (Refused n p) l ≡ patternCall s g es ps l
     unfolding patternResult
-    call-declined n p e = ap (λ (v : Verdict). patternResult v s b l) e ∙ sym call-is
+    call-refused n p e = ap (λ (v : Verdict). patternResult v s b l) e ∙ sym call-is
 
     module _ (A : accepted ≡ patternVerdict s (patternSizes l) (patternBale g m 0 ps)) where
       pub call-countable : m ≤ 10 → (n : ℕ) → n ≡ 2 * m → Countable s g m ps n (length (l .workFloats)) (length (l .workNumbers)) (length (l .report))

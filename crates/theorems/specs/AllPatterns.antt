@@ -1,13 +1,18 @@
 -- All read patterns of a small graph: the claims of `claims`, proved.
-use Rattle.claims.specs.AllPatterns.{PatternsCounted, EveryPatternAccepted, EvidenceUnread, PatternTable, PatternCallAnswered}
+use Rattle.claims.specs.AllPatterns.{PatternsCounted, UnpairedMissing, EveryPatternAccepted, EvidenceUnread, PatternTable, PatternCallAnswered}
 use Rattle.pattern_laws.specs.Report as Report
 use Rattle.pattern_laws.specs.Table as Table
 use Rattle.pattern_laws.specs.Call as Call
+use Rattle.pattern_laws.specs.Missing as Missing
 
--- (1) the report counts patterns, (2) each of which is accepted
+-- (1) the report counts patterns; which grades are without belief
 pub patterns-counted : PatternsCounted
 patterns-counted = Report.patterns-counted
 
+pub unpaired-missing : UnpairedMissing
+unpaired-missing = Missing.unpaired-missing
+
+-- (2) every pattern is accepted
 pub every-pattern-accepted : EveryPatternAccepted
 every-pattern-accepted = Call.every-pattern-accepted
 

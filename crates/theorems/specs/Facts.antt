@@ -14,6 +14,9 @@ pub use Rattle.graph_laws.specs.Highest.{IsHighest}
 pub use Rattle.graph_laws.specs.Unread.{sweep-unread, opening-unread}
 -- A convolution is its accumulating loop; logLength n is the least p with n ≤ 2 ^ p.
 pub use Rattle.graph_laws.specs.Convolution.{convolve-accumulates, logLength-least}
+-- A grade has a belief exactly if it stands in a pair.
+pub use Rattle.claims.specs.Parts.{inPair}
+pub use Rattle.graph_laws.specs.Paired.{believed-paired}
 -- Beliefs and endings are at most the grades, numbers fit 32 bits, every lent buffer keeps its length, a refusal leaves all as it was.
 pub use Rattle.graph_laws.specs.AnswerSizes.{AnswerSizes, answer-sizes}
 pub use Rattle.graph_laws.specs.CallLengths.{SameLengths, call-lengths, call-refused, call-accepted, call-counts}

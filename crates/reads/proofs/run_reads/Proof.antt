@@ -8,6 +8,11 @@ use borrow.Author.Needs.{needs}
 use Rattle.reads.proofs.run_reads.Statement.{statement}
 use Rattle.reads.proofs.run_reads.Tie as tie
 
+-- what the call was given
+module _ (b : tie.After-calibrate-all-subgraphs) where
+  abbrev start : tie.Start
+  start = b .before .before .before .before .before .before .before .before .before .before .before .before .before
+
 slice-aggregate-calibrate-all-subgraphs : tie.Need-slice-aggregate-calibrate-all-subgraphs
 slice-aggregate-calibrate-all-subgraphs c = search needs
 
@@ -41,8 +46,10 @@ same-length-4 c = search needs
 returns : tie.Need-returns
 unfolding ofBits
 returns c =
-    let a = c .before .before .before .before .before .before .before .before .before .before .before .before .before .before .before .before .before .before .before .before .before .before .before .before .before .before .args in
-    ran _ (a .grades) (a .evidence .now) (a .pairs .now) _ _ _ _ (c .before .before .before .before .before .before .before .before .before .before .before .before .before .before .before .before .before .before .before .before .before .before .before .before .before .before .pre) (c .before .before .before .before .before .before .before .before .before .before .before .before .before .calibrate-all-subgraphs .result) _ (c .before .before .before .before .before .before .before .before .before .before .before .before .before .calibrate-all-subgraphs .ensures) _ (ap (λ (o : Outcome). countIn (outcomeOf o)) (c .before .outcome .given .1))
+    let b = c .before .before .before .before .before .before .before .before .before .before .before .before .before in
+    let a = start b .args in
+    ran _ (a .grades) (a .evidence .now) (a .pairs .now) _ _ _ _ (start b .pre) (b .calibrate-all-subgraphs .result) _ (b .calibrate-all-subgraphs .ensures) _
+    (ap (λ (o : Outcome). countIn (outcomeOf o)) (c .before .outcome .given .1))
 
 same-length-5 : tie.Need-same-length-5
 same-length-5 c = search needs
@@ -59,8 +66,10 @@ same-length-8 c = search needs
 returns-2 : tie.Need-returns-2
 unfolding ofBits
 returns-2 c =
-    let a = c .before .before .before .before .before .before .before .before .before .before .before .before .before .before .before .before .before .before .before .before .before .before .before .before .before .args in
-    ran _ (a .grades) (a .evidence .now) (a .pairs .now) _ _ _ _ (c .before .before .before .before .before .before .before .before .before .before .before .before .before .before .before .before .before .before .before .before .before .before .before .before .before .pre) (c .before .before .before .before .before .before .before .before .before .before .before .before .calibrate-all-subgraphs .result) _ (c .before .before .before .before .before .before .before .before .before .before .before .before .calibrate-all-subgraphs .ensures) _ (ap (λ (o : Outcome). countIn (outcomeOf o)) (c .enum-told .given .1))
+    let b = c .before .before .before .before .before .before .before .before .before .before .before .before in
+    let a = start b .args in
+    ran _ (a .grades) (a .evidence .now) (a .pairs .now) _ _ _ _ (start b .pre) (b .calibrate-all-subgraphs .result) _ (b .calibrate-all-subgraphs .ensures) _
+    (ap (λ (o : Outcome). countIn (outcomeOf o)) (c .enum-told .given .1))
 
 pub run-reads-spec : {M : Type 1} → statement M
 run-reads-spec =

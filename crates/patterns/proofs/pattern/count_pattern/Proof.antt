@@ -5,6 +5,11 @@ use borrow.Author.Needs.{needs}
 use Rattle.patterns.proofs.pattern.count_pattern.Statement.{statement}
 use Rattle.patterns.proofs.pattern.count_pattern.Tie as tie
 
+-- what the call was given
+module _ (b : tie.After-put-pattern) where
+  abbrev start : tie.Start
+  start = b .before .before .before .before .before .before .before
+
 put-pattern-requires : tie.Need-put-pattern-requires
 put-pattern-requires c κs = search needs
 
@@ -17,8 +22,9 @@ slice-aggregate-run-reads-2 c = search needs
 run-reads-requires : tie.Need-run-reads-requires
 unfolding ofBits
 run-reads-requires c κs =
-    let a = c .before .before .before .before .before .before .before .before .before .before .before .before .before .before .args in
-    reads-run _ (a .grades) (a .markers) (a .p) (a .pairs .now) (a .work-floats .now) (a .work-numbers .now) (a .report .now) (c .before .before .before .before .before .before .before .before .before .before .before .before .before .before .pre .1) _ (c .before .before .before .before .before .before .before .put-pattern .ensures)
+    let b = c .before .before .before .before .before .before .before in
+    let a = start b .args in
+    reads-run _ (a .grades) (a .markers) (a .p) (a .pairs .now) (a .work-floats .now) (a .work-numbers .now) (a .report .now) (start b .pre .1) _ (b .put-pattern .ensures)
 
 slice-aggregate-count-beliefs : tie.Need-slice-aggregate-count-beliefs
 slice-aggregate-count-beliefs c = search needs
@@ -29,8 +35,10 @@ slice-aggregate-count-beliefs-2 c = search needs
 count-beliefs-requires : tie.Need-count-beliefs-requires
 unfolding ofBits
 count-beliefs-requires c κs =
-    let a = c .before .before .before .before .before .before .before .before .before .before .before .before .before .before .before .before .before .before .before .before .before .before .before .before .args in
-    beliefs-movable _ (a .grades) (a .markers) (a .p) (a .pairs .now) (a .work-floats .now) (a .work-numbers .now) (a .report .now) (c .before .before .before .before .before .before .before .before .before .before .before .before .before .before .before .before .before .before .before .before .before .before .before .before .pre .1) _ (c .before .before .before .before .before .before .before .before .before .before .before .before .before .before .before .before .before .put-pattern .ensures) _ _ _ _ _ _ _ (c .before .before .before .before .before .before .before .before .before .run-reads .ensures)
+    let b = c .before .before .before .before .before .before .before .before .before .before .before .before .before .before .before .before .before in
+    let a = start b .args in
+    beliefs-movable _ (a .grades) (a .markers) (a .p) (a .pairs .now) (a .work-floats .now) (a .work-numbers .now) (a .report .now) (start b .pre .1) _ (b .put-pattern .ensures)
+    _ _ _ _ _ _ _ (c .before .before .before .before .before .before .before .before .before .run-reads .ensures)
 
 same-length : tie.Need-same-length
 same-length c = search needs
@@ -47,8 +55,10 @@ same-length-4 c = search needs
 returns : tie.Need-returns
 unfolding ofBits
 returns c =
-    let a = c .before .before .before .before .before .before .before .before .before .before .before .before .before .before .before .before .before .before .before .before .before .before .before .before .before .before .before .args in
-    pattern-added _ (a .grades) (a .markers) (a .p) (a .pairs .now) (a .work-floats .now) (a .work-numbers .now) (a .report .now) (c .before .before .before .before .before .before .before .before .before .before .before .before .before .before .before .before .before .before .before .before .before .before .before .before .before .before .before .pre .1) _ (c .before .before .before .before .before .before .before .before .before .before .before .before .before .before .before .before .before .before .before .before .put-pattern .ensures) _ _ _ _ _ _ _ (c .before .before .before .before .before .before .before .before .before .before .before .before .run-reads .ensures) _ (c .before .before .count-beliefs .ensures)
+    let b = c .before .before .before .before .before .before .before .before .before .before .before .before .before .before .before .before .before .before .before .before in
+    let a = start b .args in
+    pattern-added _ (a .grades) (a .markers) (a .p) (a .pairs .now) (a .work-floats .now) (a .work-numbers .now) (a .report .now) (start b .pre .1) _ (b .put-pattern .ensures)
+    _ _ _ _ _ _ _ (c .before .before .before .before .before .before .before .before .before .before .before .before .run-reads .ensures) _ (c .before .before .count-beliefs .ensures)
 
 pub count-pattern-spec : {M : Type 1} → statement M
 count-pattern-spec =

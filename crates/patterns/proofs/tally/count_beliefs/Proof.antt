@@ -1,12 +1,12 @@
 -- `tally::count_beliefs` meets its contract.
 use borrow.Author.Needs.{needs}
-use Rattle.patterns.specs.Tally.{HasRoom, moved, moved-long, Movable, tallied, belief-at, movable-start, tallied-start, tallied-done}
+use Rattle.patterns.specs.Tally.{HasRoom, NextBelief, moved, moved-long, Movable, tallied, belief-at, movable-start, tallied-start, tallied-done}
 use Rattle.definition.specs.Reads.{aboveHalf}
 use mathlib.Core.Bool.{Bool}
 use lib.Ieee.{nan}
 use lib.ListN.{length, getD, drop}
 use mathlib.Core.Path.{_≡_, refl, sym, ap, _∙_, subst}
-use Prim.Native.Nat.{_-_, _+_, _*_, _≤_}
+use Prim.Native.Nat.{ℕ, _-_, _+_, _*_, _≤_}
 use native.Mathlib.Omega.{arith}
 use Rattle.patterns.proofs.tally.count_beliefs.Statement.{statement}
 use Rattle.patterns.proofs.tally.count_beliefs.Tie as tie
@@ -19,37 +19,53 @@ abbrev μ-loop : tie.MeasureT-loop
 
 loop-holds : tie.Need-loop-holds Inv-loop μ-loop
 loop-holds c =
-    let a = c .before .before .before .args in
-    (omega arith, movable-start (a .count) (a .numbers .now) (a .floats .now) (a .report .now) (c .before .before .before .pre), tallied-start (a .count) (a .numbers .now) (a .floats .now) (a .report .now), refl)
+    let a = c .before .before .before .args in (
+      omega arith,
+      movable-start (a .count) (a .numbers .now) (a .floats .now) (a .report .now) (c .before .before .before .pre),
+      tallied-start (a .count) (a .numbers .now) (a .floats .now) (a .report .now),
+      refl,
+    )
+
+-- a turn of the loop: what the call was given, and the belief that is next
+module _ (b : tie.In-loop Inv-loop μ-loop) where
+  abbrev start : tie.Start Inv-loop μ-loop
+  start = b .before .before .before .before .before
+
+  abbrev at : ℕ
+  at = b .before .loop .i
+
+  next : NextBelief (start .args .count - at) (start .args .count - (at + 1)) at (at + 1) (start .args .numbers .now) (start .args .floats .now) (b .before .loop .report)
+  next =
+      belief-at (start .args .count) at (start .args .numbers .now) (start .args .floats .now) (b .before .loop .report) (omega (arith, b .loop-test .taken)) (b .before .loop .inv .1)
 
 mul-grade : tie.Need-mul-grade Inv-loop μ-loop
-mul-grade c = let b = belief-at (c .before .before .before .before .before .args .count) (c .before .loop .i) (c .before .before .before .before .before .args .numbers .now) (c .before .before .before .before .before .args .floats .now) (c .before .loop .report) (omega arith) (c .before .loop .inv .1) in omega (arith, c .before .before .before .before .before .good .1 .1)
+mul-grade c = omega (arith, next c .in-numbers, start c .good .1 .1)
 
 shared-slice-read-grade : tie.Need-shared-slice-read-grade Inv-loop μ-loop
-shared-slice-read-grade c = belief-at (c .before .before .before .before .before .before .args .count) (c .before .before .loop .i) (c .before .before .before .before .before .before .args .numbers .now) (c .before .before .before .before .before .before .args .floats .now) (c .before .before .loop .report) (omega arith) (c .before .before .loop .inv .1) .in-numbers
+shared-slice-read-grade c = next (c .before) .in-numbers
 
 cast-grade : tie.Need-cast-grade Inv-loop μ-loop
-cast-grade c = omega (arith, c .shared-slice-known3 .given (c .before .before .loop .i))
+cast-grade c = omega (arith, c .shared-slice-known3 .given (at (c .before)))
 
 mul-is-above-half : tie.Need-mul-is-above-half Inv-loop μ-loop
-mul-is-above-half c = let b = belief-at (c .before .before .before .before .before .before .args .count) (c .before .before .loop .i) (c .before .before .before .before .before .before .args .numbers .now) (c .before .before .before .before .before .before .args .floats .now) (c .before .before .loop .report) (omega arith) (c .before .before .loop .inv .1) in omega (arith, c .before .before .before .before .before .before .good .1 .1)
+mul-is-above-half c = omega (arith, next (c .before) .in-floats, start (c .before) .good .1 .1)
 
 add-is-above-half : tie.Need-add-is-above-half Inv-loop μ-loop
-add-is-above-half c = let b = belief-at (c .before .before .before .before .before .before .args .count) (c .before .before .loop .i) (c .before .before .before .before .before .before .args .numbers .now) (c .before .before .before .before .before .before .args .floats .now) (c .before .before .loop .report) (omega arith) (c .before .before .loop .inv .1) in omega (arith, c .before .before .before .before .before .before .good .1 .1)
+add-is-above-half c = omega (arith, next (c .before) .in-floats, start (c .before) .good .1 .1)
 
 mul-is-above-half-2 : tie.Need-mul-is-above-half-2 Inv-loop μ-loop
-mul-is-above-half-2 c = let b = belief-at (c .before .before .before .before .before .before .args .count) (c .before .before .loop .i) (c .before .before .before .before .before .before .args .numbers .now) (c .before .before .before .before .before .before .args .floats .now) (c .before .before .loop .report) (omega arith) (c .before .before .loop .inv .1) in omega (arith, c .before .before .before .before .before .before .good .1 .1)
+mul-is-above-half-2 c = omega (arith, next (c .before) .in-floats, start (c .before) .good .1 .1)
 
 shared-slice-read-is-above-half : tie.Need-shared-slice-read-is-above-half Inv-loop μ-loop
-shared-slice-read-is-above-half c = belief-at (c .before .before .before .before .before .before .before .args .count) (c .before .before .before .loop .i) (c .before .before .before .before .before .before .before .args .numbers .now) (c .before .before .before .before .before .before .before .args .floats .now) (c .before .before .before .loop .report) (omega arith) (c .before .before .before .loop .inv .1) .in-floats
+shared-slice-read-is-above-half c = next (c .before .before) .in-floats
 
 is-above-half-requires : tie.Need-is-above-half-requires Inv-loop μ-loop
 is-above-half-requires c κs = search needs
 
 move-belief-requires : tie.Need-move-belief-requires Inv-loop μ-loop
 move-belief-requires c κs =
-    let b = belief-at (c .before .before .before .before .before .before .before .before .before .args .count) (c .before .before .before .before .before .loop .i) (c .before .before .before .before .before .before .before .before .before .args .numbers .now) (c .before .before .before .before .before .before .before .before .before .args .floats .now) (c .before .before .before .before .before .loop .report) (omega arith) (c .before .before .before .before .before .loop .inv .1) in
-    subst (λ (x : Bool). HasRoom (getD (c .before .before .before .before .before .before .before .before .before .args .numbers .now) (c .before .before .before .before .before .loop .i) 0) x (c .before .before .before .before .before .loop .report)) (sym (c .before .is-above-half .ensures)) (b .room)
+    let b = c .before .before .before .before in
+    subst (λ (x : Bool). HasRoom (getD (start b .args .numbers .now) (at b) 0) x (b .before .loop .report)) (sym (c .before .is-above-half .ensures)) (next b .room)
 
 add-i : tie.Need-add-i Inv-loop μ-loop
 add-i c = omega arith
@@ -59,16 +75,20 @@ loop-less c = omega arith
 
 loop-again : tie.Need-loop-again Inv-loop μ-loop
 loop-again c =
-    let a = c .before .before .before .before .before .before .before .before .before .before .before .before .args in
-    let i = c .before .before .before .before .before .before .before .before .loop .i in
-    let r = c .before .before .before .before .before .before .before .before .loop .report in
-    let b = belief-at (c .before .before .before .before .before .before .before .before .before .before .before .before .args .count) (c .before .before .before .before .before .before .before .before .loop .i) (c .before .before .before .before .before .before .before .before .before .before .before .before .args .numbers .now) (c .before .before .before .before .before .before .before .before .before .before .before .before .args .floats .now) (c .before .before .before .before .before .before .before .before .loop .report) (omega arith) (c .before .before .before .before .before .before .before .before .loop .inv .1) in
-    let e : c .before .before .move-belief .last .0 ≡ moved r (getD (a .numbers .now) i 0) (aboveHalf (getD (a .floats .now) (2 * i + 1) nan)) =
-    c .before .before .move-belief .ensures ∙ ap (λ (x : Bool). moved r (getD (a .numbers .now) i 0) x) (c .before .before .before .before .is-above-half .ensures) in (
+    let b = c .before .before .before .before .before .before .before in
+    let a = start b .args in
+    let i = at b in
+    let r = b .before .loop .report in
+    let g = getD (a .numbers .now) i 0 in
+    let above = aboveHalf (getD (a .floats .now) (2 * i + 1) nan) in
+    let e : c .before .before .move-belief .last .0 ≡ moved r g above = c .before .before .move-belief .ensures ∙ ap (λ (x : Bool). moved r g x) (c .before .before .before .before .is-above-half .ensures) in
+    let k = a .count - (i + 1) in
+    let ns = drop (i + 1) (a .numbers .now) in
+    let fs = drop (2 * (i + 1)) (a .floats .now) in (
       omega arith,
-      subst (Movable (a .count - (i + 1)) (drop (i + 1) (a .numbers .now)) (drop (2 * (i + 1)) (a .floats .now))) (sym e) (b .rest),
-      ap (tallied (a .count - (i + 1)) (drop (i + 1) (a .numbers .now)) (drop (2 * (i + 1)) (a .floats .now))) e ∙ sym (b .same) ∙ c .before .before .before .before .before .before .before .before .loop .inv .2,
-      ap length e ∙ moved-long r (getD (a .numbers .now) i 0) (aboveHalf (getD (a .floats .now) (2 * i + 1) nan)) ∙ c .before .before .before .before .before .before .before .before .loop .inv .3,
+      subst (Movable k ns fs) (sym e) (next b .rest),
+      ap (tallied k ns fs) e ∙ sym (next b .same) ∙ b .before .loop .inv .2,
+      ap length e ∙ moved-long r g above ∙ b .before .loop .inv .3,
     )
 
 same-length : tie.Need-same-length Inv-loop μ-loop

@@ -1,0 +1,91 @@
+//! The counts over all read patterns by the library's C interface.
+
+use crate::buffer::{Buffer, pointer_to};
+use oracle::patterns::{Patterns, Standing};
+use oracle::refusal::Refusal;
+
+/// What the call answers: a refusal's number and place, or 0 and how many grades were reported.
+#[repr(C)]
+#[derive(Clone, Copy, Debug, PartialEq, Eq)]
+pub struct Reply {
+    pub refusal: u32,
+    pub place: u32,
+    pub grades: u32,
+}
+
+impl Reply {
+    pub fn of(outcome: &Result<Vec<Standing>, Refusal>) -> Reply {
+        match outcome {
+            Err(refusal) => Reply { refusal: refusal.number, place: refusal.place, grades: 0 },
+            Ok(standings) => Reply { refusal: 0, place: 0, grades: standings.len() as u32 },
+        }
+    }
+}
+
+#[link(name = "pikaplatinum", kind = "static")]
+unsafe extern "C" {
+    fn pikaplatinum_count_patterns(
+        alpha: f32,
+        beta: f32,
+        prior: f32,
+        regularised: bool,
+        tolerance: f32,
+        loop_limit: u32,
+        grades: u32,
+        evidence: *const f32,
+        evidence_len: usize,
+        pairs: *const u32,
+        pairs_len: usize,
+        work_floats: *mut f32,
+        work_floats_len: usize,
+        work_numbers: *mut u32,
+        work_numbers_len: usize,
+        report: *mut u32,
+        report_len: usize,
+    ) -> Reply;
+}
+
+pub struct Buffers {
+    pub work_floats: Buffer,
+    pub work_numbers: Buffer,
+    pub report: Buffer,
+}
+
+impl Buffers {
+    pub fn lent(request: &Patterns) -> Buffers {
+        Buffers {
+            work_floats: Buffer::new(request.call.lent.work_floats),
+            work_numbers: Buffer::new(request.call.lent.work_words),
+            report: Buffer::new(request.report),
+        }
+    }
+
+    pub fn intact(&self) -> bool {
+        [&self.work_floats, &self.work_numbers, &self.report].iter().all(|buffer| buffer.intact())
+    }
+}
+
+pub fn count_patterns(request: &Patterns, lent: &mut Buffers) -> Reply {
+    let (call, s) = (&request.call, &request.call.settings);
+    unsafe {
+        pikaplatinum_count_patterns(
+            s.alpha,
+            s.beta,
+            s.prior,
+            s.regularised,
+            s.tolerance,
+            s.loop_limit,
+            call.grades,
+            pointer_to(&call.evidence),
+            call.evidence.len(),
+            pointer_to(&call.pairs),
+            call.pairs.len(),
+            lent.work_floats.pointer().cast(),
+            lent.work_floats.len(),
+            lent.work_numbers.pointer(),
+            lent.work_numbers.len(),
+            lent.report.pointer(),
+            lent.report.len(),
+        )
+    }
+}
