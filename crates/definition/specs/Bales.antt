@@ -59,7 +59,7 @@ abbrev marked : ℕ → List ℕ → ℕ → Bale
 marked g ps m = record { grades = g; markers = replicate m (record { absent = halfᶠ; present = halfᶠ }); pairs = pairsOf ps }
 
 abbrev reporting : ℕ → PatternBuffers
-reporting n = record { workFloats = 4224; workNumbers = 4224; report = n }
+reporting n = record { workFloats = 4288; workNumbers = 4288; report = n }
 
 -- how many nodes and edges each component has
 abbrev sizes : Bale → List (List ℕ)
@@ -111,6 +111,7 @@ pub record Bales : Type 0 where
   pub short-report : patternVerdict (settings 1 2048 false) (reporting 2) (marked 1 [] 0) ≡ refused 2 0
   pub alpha-first : patternVerdict (settings 1 2048 false) (reporting 3) (marked 1 [] 0) ≡ refused 3 0
   pub unknown-marker : patternVerdict (settings 1 2 false) (reporting 3) (marked 1 (0 ∷ 0 ∷ []) 0) ≡ refused 6 0
+  pub all-patterns : patternVerdict (settings 1 2 false) (reporting 3) (marked 1 (0 ∷ 0 ∷ []) 1) ≡ accepted
 
 pub bales : Bales
 unfolding round add sub mul div neg lt le eq isNan ofInt toUnsigned toBits size ofBits maxᶠ abs avoidUnderflow clamp logTableNumber logTableEntry lnOfBits ln expSeries expReduced exp powiFrom powi sumOf productFrom productOf normalize avoidUnderflowAll logNormalize sumLogBlocks sumLogsBatched cpdAbsent cpdAbsentRegularised cpdRows cpdTable convolve countLayer messageUp likelihoodsBelow treeLayers logLength firstLayer treeMessages builtGraph walk components componentsOf subgraph subgraphOf edgeAt directionTo directionsTo firstsIncoming directionFrom messageNodesFrom messageGraph messageGraphOf setMessages copyNode copyNodes initialBelief outMessageLog outMessageVariable outMessageFactor outMessageFactorTo outMessageBy outMessage absLogRatio pairResidual vectorResidual residual equalMessages messageChange changeExceeds needsRebuild treeOutMessages outMessagesTree outMessages initialMessage updateKind openingInput openingFactor logTotal leaveOneOut openingVariable openingGrade initializeMessages opening computeUpdate sweep initialPriority beginLoop exceeds higher highestFrom highestPriority updateSingle neighbourNumbers updateTree updateMessage otherOutgoing addPending pushPriorities scheduledStep applyEvent stateAfter openingAndSweeps events loop run logMarginal marginal beliefsAmong partAnswer answersOf answersFrom answer endingNumber endingResidual answeredBeliefs beliefNumbers beliefFloats endingNumbers endingFloats markersOf pairsOf baleOf outside tooMany workNeeded tooSmall badTolerance badEvidence unknownPair equalPairs lowestPlaceFrom lowestPlace isAmong repeatedPairs tooManyGrades orRefused verdict words wordKind bits fieldWidth cleanWord mayFollow badWordFrom badWord wordsOfKind firstOfKind settingsOf evidenceOf pairOf baleOfWords decimalBefore decimal hexDigit hexBefore hex line partFields beliefLine beliefLines partLines baleLine refusal verdictLines fileLines listing ascii patterns withReads presentOf aboveHalf patternCount patternCounts ampleFor allWeak patternVerdict
@@ -144,4 +145,5 @@ bales =
       short-report = refl;
       alpha-first = refl;
       unknown-marker = refl;
+      all-patterns = refl;
     }
