@@ -66,9 +66,6 @@ module _ (s : Settings) (g : ℕ) (es : List Float) (ps : List ℕ) (l : Pattern
     abbrev b : Bale
     b = patternBale g m 0 ps
 
-    abbrev judgement : Verdict
-    judgement = patternVerdict s (patternSizes l) (patternBale g m 0 ps)
-
     call-is : patternCall s g es ps l ≡ patternResult (patternVerdict s (patternSizes l) (patternBale g m 0 ps)) s (patternBale g m 0 ps) l
     unfolding patternCall baleOf
     call-is = call-same g (pairsOf ps) (markersOf es) _ (length-markers es ∙ sym few ∙ sym (markers-many g m 0 ps)) s l (patternSizes l)
