@@ -19,7 +19,8 @@ pub fn lower_ten(word: u32) -> u32
     word % 1024
 }
 
-fn over_1024(n: u32) -> f32
+// A setting in 1,024ths.
+pub fn over_1024(n: u32) -> f32
     requires { ⌜ n < 1024 ⌝ }
     ensures { λ r. ⌜ r ≡ ratio n 1024 ⌝ }
 {

@@ -13,8 +13,9 @@ use Rattle.definition.specs.Settings.{Settings}
 use Rattle.definition.specs.FactorGraph.{Bale}
 use Rattle.definition.specs.Refusals.{accepted, refused, workNeeded, baleOf, verdict}
 use Rattle.definition.specs.Call.{overwrite}
-use Rattle.definition.specs.Reads.{withReads, presentUnder}
-use Rattle.definition.specs.Patterns.{isAbove, isNotAbove, isMissing, patternCounts, PatternBuffers, ampleFor, patternVerdict, PatternLent, patternSizes, reported, patternRefused, patternCall}
+use Rattle.definition.specs.Reads.{withReads, presentUnder, isAbove, isNotAbove, isMissing}
+use Rattle.definition.specs.Report.{ReportBuffers, ampleFor, ReportLent, reportSizes, reported, reportRefused}
+use Rattle.definition.specs.Patterns.{patternCounts, patternVerdict, patternCall}
 use Rattle.claims.specs.Parts.{inPair}
 use Rattle.claims.specs.First.{First}
 use Rattle.claims.specs.Refused.{Fails}
@@ -45,24 +46,24 @@ pub record MissingIsUnpaired (s : Settings) (b : Bale) (g : ℕ) : Type 0 where
   pub paired : inPair b g ≡ true → reportedAt s b (3 * g + 2) ≡ 0
 
 abbrev pub UnpairedMissing : Type 0
-UnpairedMissing = (s : Settings) (f : PatternBuffers) (b : Bale) → patternVerdict s f b ≡ accepted → (g : ℕ) → g < b .grades → MissingIsUnpaired s b g
+UnpairedMissing = (s : Settings) (f : ReportBuffers) (b : Bale) → patternVerdict s f b ≡ accepted → (g : ℕ) → g < b .grades → MissingIsUnpaired s b g
 
 -- ---- (2) where the call is accepted, so is the bale under every pattern, with room for its answer: no refusal is counted as 'no belief'
 
 abbrev pub EveryPatternAccepted : Type 0
-EveryPatternAccepted = (s : Settings) (f : PatternBuffers) (b : Bale) → patternVerdict s f b ≡ accepted →
+EveryPatternAccepted = (s : Settings) (f : ReportBuffers) (b : Bale) → patternVerdict s f b ≡ accepted →
     (rs : List Bool) → length rs ≡ length (b .markers) → verdict s (ampleFor f b) (withReads rs b) ≡ accepted
 
 -- ---- (3) of the evidence only its length counts
 
 abbrev pub EvidenceUnread : Type 0
-EvidenceUnread = (s : Settings) (g : ℕ) (es fs : List Float) (ps : List ℕ) (l : PatternLent) → length es ≡ length fs → patternCall s g es ps l ≡ patternCall s g fs ps l
+EvidenceUnread = (s : Settings) (g : ℕ) (es fs : List Float) (ps : List ℕ) (l : ReportLent) → length es ≡ length fs → patternCall s g es ps l ≡ patternCall s g fs ps l
 
 -- ---- (4) the table of refusals
 
 -- Check n fails at place p: 18 for over 10 markers, 2 for a report under three numbers a grade; all else as in a plain call, with room for its answer, but that
 -- number 5 is no check.
-pub data PatternFails (s : Settings) (f : PatternBuffers) (b : Bale) : ℕ → ℕ → Type 0 where
+pub data PatternFails (s : Settings) (f : ReportBuffers) (b : Bale) : ℕ → ℕ → Type 0 where
   manyMarkers : 10 < length (b .markers) → PatternFails s f b 18 0
   shortReport : f .report < 3 * b .grades → PatternFails s f b 2 0
   asCalled : {n p : ℕ} → (n ≡ 5 → ⊥) → Fails s (ampleFor f b) b n p → PatternFails s f b n p
@@ -71,17 +72,17 @@ abbrev pub patternOrder : List ℕ
 patternOrder = 18 ∷ 1 ∷ 2 ∷ 3 ∷ 4 ∷ 6 ∷ 7 ∷ 8 ∷ []
 
 -- a call is refused with the first cause in that order, and accepted exactly if there is none
-pub record PatternsJudged (s : Settings) (f : PatternBuffers) (b : Bale) : Type 0 where
+pub record PatternsJudged (s : Settings) (f : ReportBuffers) (b : Bale) : Type 0 where
   pub accepts : patternVerdict s f b ≡ accepted ↔ ((n p : ℕ) → PatternFails s f b n p → ⊥)
   pub refuses : (n p : ℕ) → patternVerdict s f b ≡ refused n p ↔ First patternOrder (PatternFails s f b) n p
 
 abbrev pub PatternTable : Type 0
-PatternTable = (s : Settings) (f : PatternBuffers) (b : Bale) → PatternsJudged s f b
+PatternTable = (s : Settings) (f : ReportBuffers) (b : Bale) → PatternsJudged s f b
 
 -- ---- (5) the call: its outcome and all that is lent, whose lengths stay
 
-pub record PatternAnswered (s : Settings) (g : ℕ) (es : List Float) (ps : List ℕ) (l : PatternLent) : Type 0 where
-  pub accepted-call : patternVerdict s (patternSizes l) (baleOf g es ps) ≡ accepted →
+pub record PatternAnswered (s : Settings) (g : ℕ) (es : List Float) (ps : List ℕ) (l : ReportLent) : Type 0 where
+  pub accepted-call : patternVerdict s (reportSizes l) (baleOf g es ps) ≡ accepted →
       let w = workNeeded (baleOf g es ps) in
       patternCall s g es ps l ≡ record {
         outcome = reported g;
@@ -91,8 +92,9 @@ pub record PatternAnswered (s : Settings) (g : ℕ) (es : List Float) (ps : List
           report = overwrite (patternCounts s (baleOf g es ps)) (l .report);
         };
       }
-  pub refused-call : (n p : ℕ) → patternVerdict s (patternSizes l) (baleOf g es ps) ≡ refused n p → patternCall s g es ps l ≡ record { outcome = patternRefused n p; lent = l }
-  pub same-lengths : patternSizes (patternCall s g es ps l .lent) ≡ patternSizes l
+  pub refused-call : (n p : ℕ) → patternVerdict s (reportSizes l) (baleOf g es ps) ≡ refused n p →
+      patternCall s g es ps l ≡ record { outcome = reportRefused n p; lent = l }
+  pub same-lengths : reportSizes (patternCall s g es ps l .lent) ≡ reportSizes l
 
 abbrev pub PatternCallAnswered : Type 0
-PatternCallAnswered = (s : Settings) (g : ℕ) (es : List Float) (ps : List ℕ) (l : PatternLent) → PatternAnswered s g es ps l
+PatternCallAnswered = (s : Settings) (g : ℕ) (es : List Float) (ps : List ℕ) (l : ReportLent) → PatternAnswered s g es ps l

@@ -11,3 +11,5 @@ pub mod Refused
 pub mod Matching
 -- All read patterns of a small graph.
 pub mod AllPatterns
+-- Settings tried on made-up bales.
+pub mod TriedSettings

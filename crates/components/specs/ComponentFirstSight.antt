@@ -11,7 +11,7 @@ use lib.Seq.{take-suc, take-length, drop-length, drop-cons, getD-set-same, getD-
 use Rattle.definition.specs.Lists.{concat, mem, indexOf}
 use Rattle.definition.specs.Components.{addIfNew, addAllNew}
 use Rattle.graph_laws.specs.Bools.{eqb-sound, eqb-same}
-use Rattle.graph_laws.specs.Lists.{All, All-mono, All-append, map-cong}
+use Rattle.graph_laws.specs.Lists.{All, All-mono, All-append, concat-append, map-cong}
 use Rattle.graph_laws.specs.Reach.{mem-append}
 use Rattle.graph_laws.specs.Ranks.{NoDup, others}
 use Rattle.graph_laws.specs.Partition.{nodup-append}
@@ -22,7 +22,6 @@ use Rattle.components.specs.ComponentMemory.{Memory}
 use Rattle.components.specs.ComponentWalk.{endOf}
 use Rattle.components.specs.ComponentRecord.{Seen, seenOf, edgeOut, newEdge, numberEdge, setSlot, seeSlot, seeSlots}
 use Rattle.components.specs.ComponentSearch.{numberAll, number-snoc, number-free}
-use Rattle.components.specs.ComponentSlots.{concat-append}
 
 -- ---- numbers given in a row
 

@@ -1,6 +1,6 @@
 -- The labels, first slots and slots that the code writes, as lists put in a row.
 use mathlib.Core.Path.{_≡_, refl, sym, ap, _∙_}
-use mathlib.Core.List.{List, [], _∷_, _++_, map, map-append, append-assoc, append-nil}
+use mathlib.Core.List.{List, [], _∷_, _++_, map, map-append, append-nil}
 use Prim.Native.Nat.{ℕ, zero, suc, _+_, _*_, _-_, _≤_, _<_}
 use native.Mathlib.Nat.{add-zero, add-suc}
 use native.Mathlib.Numerals.{add-one}
@@ -8,16 +8,12 @@ use native.Mathlib.Omega.{arith}
 use lib.ListN.{length, getD, set, take, length-append, length-map}
 use lib.Seq.{take-suc, take-length}
 use Rattle.definition.specs.Lists.{range, concat}
-use Rattle.graph_laws.specs.Lists.{length-count}
+use Rattle.graph_laws.specs.Lists.{length-count, concat-append}
 use Rattle.list_laws.specs.Write.{write}
 use Rattle.list_laws.specs.Put.{put, length-put, put-next, put-none}
 use Rattle.list_laws.specs.PutMore.{write-put, put-snoc, set-put}
 use Rattle.components.specs.ComponentWalk.{firstOf, slotOf}
 use Rattle.components.specs.ComponentRecord.{nodeAt, degreeAt, slotsOf, lists, listed}
-
-pub concat-append : {X : Type 0} (xs ys : List (List X)) → concat (xs ++ ys) ≡ concat xs ++ concat ys
-concat-append [] ys = refl
-concat-append (x ∷ xs) ys = ap (λ (l : List _). x ++ l) (concat-append xs ys) ∙ sym (append-assoc x (concat xs) (concat ys))
 
 pub map-range : (f : ℕ → ℕ) (a k j : ℕ) → j < k → getD (map f (range a k)) j 0 ≡ f (a + j)
 map-range f a zero j h = absurd (let z : ⊥ = omega arith in z)

@@ -5,7 +5,7 @@ use mathlib.Core.Bool.{Bool, true, false}
 use mathlib.Core.Option.{some}
 use mathlib.Core.List.{List, [], _∷_, map}
 use lib.IntN.{pos, negsuc}
-use lib.ListN.{length, replicate}
+use lib.ListN.{length, getD, replicate}
 use lib.Ieee.{Float, binary32, fin, round, add, sub, mul, div, neg, lt, le, eq, isNan, ofInt, toUnsigned, toBits, size, ofBits}
 use Rattle.definition.specs.Floats.{maxᶠ, abs, avoidUnderflow, clamp, logTableNumber, logTableEntry, lnOfBits, ln, expSeries, expReduced, exp, powiFrom, powi, zeroᶠ, halfᶠ, oneᶠ, twoᶠ, ln2, ratio}
 use Rattle.definition.specs.Vectors.{sumOf, productFrom, productOf, normalize, avoidUnderflowAll, logNormalize, sumLogBlocks, sumLogsBatched, binary}
@@ -24,8 +24,10 @@ use Rattle.definition.specs.Refusals.{markersOf, pairsOf, baleOf, outsid
 use Rattle.definition.specs.BaleFile.{words, wordKind, bits, fieldWidth, cleanWord, mayFollow, badWordFrom, badWord, wordsOfKind, firstOfKind, settingsOf, evidenceOf, pairOf, baleOfWords}
 use Rattle.definition.specs.Listing.{decimalBefore, decimal, hexDigit, hexBefore, hex, line, partFields, beliefLine, beliefLines, partLines, baleLine, refusal, verdictLines, fileLines, listing}
 use Rattle.definition.specs.Lists.{range, patterns}
-use Rattle.definition.specs.Reads.{withReads, presentOf, presentUnder, aboveHalf}
-use Rattle.definition.specs.Patterns.{PatternBuffers, patternCount, patternCounts, ampleFor, allWeak, patternVerdict}
+use Rattle.definition.specs.Reads.{withReads, allWeak, presentOf, presentUnder, aboveHalf}
+use Rattle.definition.specs.Report.{ReportBuffers, ampleFor, sizesVerdict}
+use Rattle.definition.specs.Patterns.{patternCount, patternCounts, patternVerdict}
+use Rattle.definition.specs.Trials.{nextNumber, draw, drawEach, drawReads, MadeUp, markerLimits, readLimits, gradeLimits, madeUp, history, Trials, settingsWith, settingsUnder, judgements, allJudgements, settingCounts, trialCounts, outsideRange, settingTests, trialVerdict, trialSettingsOf}
 use Rattle.definition.specs.Text.{ascii}
 
 -- ---- what the table speaks of
@@ -58,8 +60,21 @@ ample = lent 20672
 abbrev marked : ℕ → List ℕ → ℕ → Bale
 marked g ps m = record { grades = g; markers = replicate m (record { absent = halfᶠ; present = halfᶠ }); pairs = pairsOf ps }
 
-abbrev reporting : ℕ → PatternBuffers
+abbrev reporting : ℕ → ReportBuffers
 reporting n = record { workFloats = 4288; workNumbers = 4288; report = n }
+
+-- these settings, so many bales from this seed
+abbrev trying : List ℕ → ℕ → ℕ → Bale → Trials
+trying ns n x b =
+    record { settings = trialSettingsOf ns; seed = x; bales = n; regularised = false; tolerance = ratio 6 1000; loopLimit = 10000; graph = b }
+
+-- 2 grades and 2 markers: pairs 0 0, 1 0, 1 1
+abbrev two : Bale
+two = marked 2 (0 ∷ 0 ∷ 1 ∷ 0 ∷ 1 ∷ 1 ∷ []) 2
+
+-- the bales that 700, 50 and 400 1,024ths make up of it from seed 1
+abbrev five : List MadeUp
+five = history (record { alpha = 700; beta = 50; prior = 400 }) two 5 1
 
 -- how many nodes and edges each component has
 abbrev sizes : Bale → List (List ℕ)
@@ -112,9 +127,30 @@ pub record Bales : Type 0 where
   pub alpha-first : patternVerdict (settings 1 2048 false) (reporting 3) (marked 1 [] 0) ≡ refused 3 0
   pub unknown-marker : patternVerdict (settings 1 2 false) (reporting 3) (marked 1 (0 ∷ 0 ∷ []) 0) ≡ refused 6 0
   pub all-patterns : patternVerdict (settings 1 2 false) (reporting 3) (marked 1 (0 ∷ 0 ∷ []) 1) ≡ accepted
+  -- xorshift from seed 1; five made-up bales: which grades are present, which markers are read strongly, and the state after 22 draws
+  pub first-number : nextNumber 1 ≡ 270369
+  pub second-number : nextNumber 270369 ≡ 67634689
+  pub five-present :
+      map (λ (d : MadeUp). d .presences) five
+      ≡ (true ∷ false ∷ []) ∷ (false ∷ false ∷ []) ∷ (false ∷ false ∷ []) ∷ (true ∷ false ∷ []) ∷ (false ∷ false ∷ []) ∷ []
+  pub five-read :
+      map (λ (d : MadeUp). d .reads) five
+      ≡ (true ∷ false ∷ []) ∷ (false ∷ false ∷ []) ∷ (false ∷ false ∷ []) ∷ (true ∷ false ∷ []) ∷ (false ∷ false ∷ []) ∷ []
+  pub five-state : getD (map (λ (d : MadeUp). d .state) five) 4 0 ≡ 3822316985
+  -- two settings on a bale of one grade and one marker, each from the seed; a grade in no pair is not counted
+  pub tried : trialCounts (trying (512 ∷ 512 ∷ 512 ∷ 1 ∷ 1 ∷ 34 ∷ []) 1 1 (marked 1 (0 ∷ 0 ∷ []) 1)) ≡ 1 ∷ 0 ∷ 0 ∷ 1 ∷ []
+  pub tried-unpaired : trialCounts (trying (512 ∷ 512 ∷ 512 ∷ []) 1 1 (marked 1 [] 1)) ≡ 0 ∷ 0 ∷ []
+  -- seed 0 ahead of too many bales, these ahead of too many grades, these ahead of a short report, it ahead of a bad setting, that ahead of an unknown pair
+  pub zero-seed : trialVerdict (reporting 0) (trying [] 1001 0 (unmarked 1025)) ≡ refused 16 0
+  pub many-bales : trialVerdict (reporting 0) (trying [] 1001 1 (unmarked 1025)) ≡ refused 17 0
+  pub many-grades-tried : trialVerdict (reporting 0) (trying (0 ∷ 1 ∷ 1 ∷ []) 1000 1 (unmarked 1025)) ≡ refused 1 0
+  pub short-report-tried : trialVerdict (reporting 1) (trying (1 ∷ 1 ∷ 1024 ∷ []) 1000 1 (unmarked 1)) ≡ refused 2 0
+  pub bad-setting : trialVerdict (reporting 4) (trying (1 ∷ 1 ∷ 1 ∷ 5 ∷ 0 ∷ 1024 ∷ []) 1 1 (marked 1 (0 ∷ 0 ∷ []) 0)) ≡ refused 3 4
+  pub unknown-marker-tried : trialVerdict (reporting 4) (trying (1 ∷ 1 ∷ 1 ∷ 5 ∷ []) 1 1 (marked 1 (0 ∷ 0 ∷ []) 0)) ≡ refused 6 0
+  pub no-setting : trialVerdict (reporting 0) (trying [] 0 1 (unmarked 1)) ≡ accepted
 
 pub bales : Bales
-unfolding round add sub mul div neg lt le eq isNan ofInt toUnsigned toBits size ofBits maxᶠ abs avoidUnderflow clamp logTableNumber logTableEntry lnOfBits ln expSeries expReduced exp powiFrom powi sumOf productFrom productOf normalize avoidUnderflowAll logNormalize sumLogBlocks sumLogsBatched cpdAbsent cpdAbsentRegularised cpdRows cpdTable convolve countLayer messageUp likelihoodsBelow treeLayers logLength firstLayer treeMessages builtGraph walk components componentsOf subgraph subgraphOf edgeAt directionTo directionsTo firstsIncoming directionFrom messageNodesFrom messageGraph messageGraphOf setMessages copyNode copyNodes initialBelief outMessageLog outMessageVariable outMessageFactor outMessageFactorTo outMessageBy outMessage absLogRatio pairResidual vectorResidual residual equalMessages messageChange changeExceeds needsRebuild treeOutMessages outMessagesTree outMessages initialMessage updateKind openingInput openingFactor logTotal leaveOneOut openingVariable openingGrade initializeMessages opening computeUpdate sweep initialPriority beginLoop exceeds higher highestFrom highestPriority updateSingle neighbourNumbers updateTree updateMessage otherOutgoing addPending pushPriorities scheduledStep applyEvent stateAfter openingAndSweeps events loop run logMarginal marginal beliefsAmong partAnswer answersOf answersFrom answer endingNumber endingResidual answeredBeliefs beliefNumbers beliefFloats endingNumbers endingFloats markersOf pairsOf baleOf outside tooMany workNeeded tooSmall badTolerance badEvidence unknownPair equalPairs lowestPlaceFrom lowestPlace isAmong repeatedPairs tooManyGrades orRefused verdict words wordKind bits fieldWidth cleanWord mayFollow badWordFrom badWord wordsOfKind firstOfKind settingsOf evidenceOf pairOf baleOfWords decimalBefore decimal hexDigit hexBefore hex line partFields beliefLine beliefLines partLines baleLine refusal verdictLines fileLines listing ascii patterns withReads presentOf aboveHalf patternCount patternCounts ampleFor allWeak patternVerdict
+unfolding round add sub mul div neg lt le eq isNan ofInt toUnsigned toBits size ofBits maxᶠ abs avoidUnderflow clamp logTableNumber logTableEntry lnOfBits ln expSeries expReduced exp powiFrom powi sumOf productFrom productOf normalize avoidUnderflowAll logNormalize sumLogBlocks sumLogsBatched cpdAbsent cpdAbsentRegularised cpdRows cpdTable convolve countLayer messageUp likelihoodsBelow treeLayers logLength firstLayer treeMessages builtGraph walk components componentsOf subgraph subgraphOf edgeAt directionTo directionsTo firstsIncoming directionFrom messageNodesFrom messageGraph messageGraphOf setMessages copyNode copyNodes initialBelief outMessageLog outMessageVariable outMessageFactor outMessageFactorTo outMessageBy outMessage absLogRatio pairResidual vectorResidual residual equalMessages messageChange changeExceeds needsRebuild treeOutMessages outMessagesTree outMessages initialMessage updateKind openingInput openingFactor logTotal leaveOneOut openingVariable openingGrade initializeMessages opening computeUpdate sweep initialPriority beginLoop exceeds higher highestFrom highestPriority updateSingle neighbourNumbers updateTree updateMessage otherOutgoing addPending pushPriorities scheduledStep applyEvent stateAfter openingAndSweeps events loop run logMarginal marginal beliefsAmong partAnswer answersOf answersFrom answer endingNumber endingResidual answeredBeliefs beliefNumbers beliefFloats endingNumbers endingFloats markersOf pairsOf baleOf outside tooMany workNeeded tooSmall badTolerance badEvidence unknownPair equalPairs lowestPlaceFrom lowestPlace isAmong repeatedPairs tooManyGrades orRefused verdict words wordKind bits fieldWidth cleanWord mayFollow badWordFrom badWord wordsOfKind firstOfKind settingsOf evidenceOf pairOf baleOfWords decimalBefore decimal hexDigit hexBefore hex line partFields beliefLine beliefLines partLines baleLine refusal verdictLines fileLines listing ascii patterns withReads presentOf aboveHalf patternCount patternCounts ampleFor sizesVerdict allWeak patternVerdict nextNumber draw drawEach drawReads markerLimits readLimits gradeLimits madeUp history settingsWith settingsUnder judgements allJudgements settingCounts trialCounts outsideRange settingTests trialVerdict trialSettingsOf
 bales =
     record {
       listed = refl;
@@ -146,4 +182,18 @@ bales =
       alpha-first = refl;
       unknown-marker = refl;
       all-patterns = refl;
+      first-number = refl;
+      second-number = refl;
+      five-present = refl;
+      five-read = refl;
+      five-state = refl;
+      tried = refl;
+      tried-unpaired = refl;
+      zero-seed = refl;
+      many-bales = refl;
+      many-grades-tried = refl;
+      short-report-tried = refl;
+      bad-setting = refl;
+      unknown-marker-tried = refl;
+      no-setting = refl;
     }

@@ -26,10 +26,12 @@ pub mod Text
 pub mod Listing
 -- Two readers over one belt.
 pub mod Readers
--- Markers read strongly or weakly, and all patterns of such reads.
+-- Markers read strongly or weakly, calls that report on many such runs: all patterns of reads, and settings tried on made-up bales.
 pub mod Reads
+pub mod Report
 pub mod Patterns
--- Computed: the constants, document 01's 'Bales to prove' with patterns of reads, and belts under two readers.
+pub mod Trials
+-- Computed: the constants, document 01's 'Bales to prove' with patterns of reads and made-up bales, and belts under two readers.
 pub mod Constants
 pub mod Bales
 pub mod Belts

@@ -1,12 +1,13 @@
 -- Markers read strongly or weakly (document 02, S-36 and S-38; the Rust has nothing of it): the two evidences, a bale under a list of reads, and what its
 -- answer says of a grade.
 use Prim.Native.Nat.{ℕ}
-use mathlib.Core.Bool.{Bool, true, false}
+use mathlib.Core.Bool.{Bool, true, false, not}
 use mathlib.Core.Option.{Option, none, some}
 use mathlib.Core.List.{List, [], _∷_, map}
 use lib.Dec.{eqb}
 use lib.Ieee.{Float, fin, lt}
 use lib.IntN.{negsuc}
+use lib.ListN.{length, replicate}
 use Rattle.definition.specs.Floats.{halfᶠ}
 use Rattle.definition.specs.Vectors.{entry}
 use Rattle.definition.specs.Settings.{Settings}
@@ -35,6 +36,10 @@ readEvidence false = weak
 unfoldable pub withReads : List Bool → Bale → Bale
 withReads rs b = record { grades = b .grades; markers = map readEvidence rs; pairs = b .pairs }
 
+-- every marker read weakly
+unfoldable pub allWeak : Bale → Bale
+allWeak b = withReads (replicate (length (b .markers)) false) b
+
 -- ---- what the answer says of a grade
 
 -- the present belief of grade g, where it has a belief
@@ -49,3 +54,16 @@ presentUnder s b rs g = presentOf (answeredBeliefs (answer s (withReads rs b))) 
 -- exactly 1/2 is not above
 unfoldable pub aboveHalf : Float → Bool
 aboveHalf x = lt halfᶠ x
+
+-- of a grade's present belief, which may not be there
+abbrev pub isAbove : Option Float → Bool
+isAbove none = false
+isAbove (some x) = aboveHalf x
+
+abbrev pub isNotAbove : Option Float → Bool
+isNotAbove none = false
+isNotAbove (some x) = not (aboveHalf x)
+
+abbrev pub isMissing : Option Float → Bool
+isMissing none = true
+isMissing (some x) = false

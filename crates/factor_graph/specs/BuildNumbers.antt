@@ -8,14 +8,14 @@ use lib.ListN.{length, getD, length-append}
 use lib.Dec.{leb, eqb}
 use Rattle.definition.specs.Lists.{range, consIf, filter, concat}
 use Rattle.definition.specs.FactorGraph.{Bale, Node, gradeNode, factorNode, inputNode, treeNode, Edge, edge, gradesOf, hasTree, markerNumbers, markerEdges, builtEdges}
-use Rattle.graph_laws.specs.Lists.{All, upto, All-mono, All-map-into, All-filter, filter-append, map-cong}
+use Rattle.graph_laws.specs.Lists.{All, upto, upto-snoc, All-mono, All-map-into, All-filter, filter-append, map-cong}
 use Rattle.graph_laws.specs.Names.{Valid}
 use Rattle.graph_laws.specs.Numbers.{number, number-grade, number-factor, number-input, number-tree}
 use Rattle.graph_laws.specs.Isomorphism.{onEdge}
 use Rattle.graph_laws.specs.Ranks.{map-concat}
 use Rattle.graph_laws.specs.WalkLoop.{index-filter}
 use Rattle.list_laws.specs.Part.{region}
-use Rattle.factor_graph.specs.BuildGroup.{upto-snoc, start, start-suc}
+use Rattle.factor_graph.specs.BuildGroup.{start, start-suc}
 use Rattle.factor_graph.specs.BuildEdges.{edgeBy, treeEdge, gradeEdge, treesOf, markerEdgesBy, edgesFrom}
 use Rattle.factor_graph.specs.BuildNodes.{treesFrom}
 

@@ -11,7 +11,7 @@ use borrow.Author.Tests.{leb-true}
 use Rattle.definition.specs.Lists.{range, consIf, filter, concat}
 use Rattle.definition.specs.FactorGraph.{Bale, Pair, gradesOf, hasTree, markerNumbers, builtNodes, builtEdges, noEvidence, Edge}
 use Rattle.definition.specs.Components.{SubgraphNode}
-use Rattle.graph_laws.specs.Lists.{All, upto, All-mono}
+use Rattle.graph_laws.specs.Lists.{All, upto, range-append, concat-append, All-mono}
 use Rattle.graph_laws.specs.Ranks.{NoDup}
 use Rattle.graph_laws.specs.AloneChecks.{eqPair}
 use Rattle.graph_laws.specs.Numbers.{number}
@@ -20,7 +20,7 @@ use Rattle.graph_laws.specs.Sizes.{nodes-length, edges-length}
 use Rattle.list_laws.specs.Part.{region}
 use Rattle.list_laws.specs.Put.{put, region-in}
 use Rattle.factor_graph.specs.Words.{kindCode, edgeWords, firstSlots, graphWords, label, numberedGraph, builtWords}
-use Rattle.factor_graph.specs.BuildGroup.{range-append, concat-append, rows, start, rows-length, start-le, start-suc, tally, tally-at}
+use Rattle.factor_graph.specs.BuildGroup.{rows, start, rows-length, start-le, start-suc, tally, tally-at}
 use Rattle.factor_graph.specs.BuildSums.{sums, firstSlots-sums}
 use Rattle.factor_graph.specs.BuildSort.{zeros, getD-zeros, Counted}
 use Rattle.factor_graph.specs.BuildEdges.{Inside, edgesFrom}

@@ -1,11 +1,11 @@
 -- What holds of each thing of a list; choosing, renaming and membership.
 use mathlib.Core.Path.{_≡_, refl, sym, ap, _∙_, subst}
 use mathlib.Core.Bool.{Bool, true, false, _||_, false≢true, or-true}
-use mathlib.Core.List.{List, [], _∷_, _++_, map}
+use mathlib.Core.List.{List, [], _∷_, _++_, map, append-assoc}
 use Prim.Native.Nat.{ℕ, zero, suc, _+_, _<_}
 use native.Mathlib.Omega.{arith}
 use lib.ListN.{length, getD, take, drop, replicate}
-use Rattle.definition.specs.Lists.{range, consIf, filter, mem}
+use Rattle.definition.specs.Lists.{range, consIf, filter, concat, mem}
 
 -- the numbers below n
 abbrev pub upto : ℕ → List ℕ
@@ -18,6 +18,28 @@ count-suc i (suc n) = ap (λ (l : List ℕ). suc i ∷ l) (count-suc (suc i) n)
 pub length-count : (i n : ℕ) → length (range i n) ≡ n
 length-count i zero = refl
 length-count i (suc n) = ap suc (length-count (suc i) n)
+
+pub range-append : (i m n : ℕ) → range i (m + n) ≡ range i m ++ range (i + m) n
+range-append i zero n =
+    let a : 0 + n ≡ n = omega arith in
+    let b : i + 0 ≡ i = omega arith in
+    rw (a, b)
+range-append i (suc m) n =
+    let a : suc m + n ≡ suc (m + n) = omega arith in
+    let b : i + suc m ≡ suc i + m = omega arith in
+    rw (a, b) (ap (λ (l : List ℕ). i ∷ l) (range-append (suc i) m n))
+
+-- one more number
+pub upto-snoc : (n : ℕ) → upto (suc n) ≡ upto n ++ n ∷ []
+upto-snoc n =
+    let a : suc n ≡ n + 1 = omega arith in
+    let b : 0 + n ≡ n = omega arith in
+    ap upto a ∙ range-append 0 n 1 ∙ ap (λ (k : ℕ). upto n ++ k ∷ []) b
+
+-- lists one after the other, of two lists of them
+pub concat-append : {A : Type 0} (xs ys : List (List A)) → concat (xs ++ ys) ≡ concat xs ++ concat ys
+concat-append [] ys = refl
+concat-append (x ∷ xs) ys = ap (λ l. x ++ l) (concat-append xs ys) ∙ sym (append-assoc x (concat xs) (concat ys))
 
 -- an entry of what is made of a run of numbers
 module _ {A : Type 0} (f : ℕ → A) (d : A) where

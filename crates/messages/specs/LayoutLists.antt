@@ -3,10 +3,10 @@ use Prim.Native.Nat.{ℕ, zero, suc, _+_, _≤_, _<_}
 use native.Mathlib.Nat.{zero-add}
 use native.Mathlib.Omega.{arith}
 use mathlib.Core.Path.{_≡_, refl, sym, ap, _∙_}
-use mathlib.Core.List.{List, [], _∷_, _++_, map, append-assoc}
+use mathlib.Core.List.{List, [], _∷_, _++_, map}
 use lib.ListN.{length, getD, take, drop, length-drop}
 use lib.Seq.{take-nil, take-suc, getD-drop}
-use Rattle.definition.specs.Lists.{range, concat}
+use Rattle.definition.specs.Lists.{range}
 use Rattle.list_laws.specs.Part.{region}
 
 module _ {A : Type 0} where
@@ -23,10 +23,6 @@ module _ {A : Type 0} where
 
   pub region-suc : (l : List A) (f n : ℕ) (d : A) → f + n < length l → region l f (suc n) ≡ region l f n ++ (getD l (f + n) d ∷ [])
   region-suc l f n d h = take-suc (drop f l) n d (simp length-drop (omega arith)) ∙ ap (λ (a : A). region l f n ++ (a ∷ [])) (getD-drop f l n d)
-
-  pub concat-append : (xs ys : List (List A)) → concat (xs ++ ys) ≡ concat xs ++ concat ys
-  concat-append [] ys = refl
-  concat-append (x ∷ xs) ys = ap (λ (l : List A). x ++ l) (concat-append xs ys) ∙ sym (append-assoc x (concat xs) (concat ys))
 
 module _ {A B : Type 0} (f : A → B) where
   pub map-take : (n : ℕ) (l : List A) → map f (take n l) ≡ take n (map f l)

@@ -12,12 +12,12 @@ use Rattle.definition.specs.Vectors.{Message}
 use Rattle.definition.specs.FactorGraph.{Bale, Node}
 use Rattle.definition.specs.Components.{Subgraph, SubgraphNode, subgraphOf}
 use Rattle.definition.specs.Directions.{MessageNode, MessageGraph, noMessageNode, directionsTo, messageGraph, messageGraphOf, nodeAt, incoming, messagesIn}
-use Rattle.graph_laws.specs.Lists.{append-none, length-count, map-cong}
+use Rattle.graph_laws.specs.Lists.{append-none, concat-append, length-count, map-cong}
 use Rattle.graph_laws.specs.Places.{All-numbered}
 use Rattle.graph_laws.specs.DirectionNumbers.{getD-mapped, messageNodes-count, outs-count, first-next, first-zero, first-last}
 use Rattle.list_laws.specs.Part.{region}
 use Rattle.messages.specs.Layout.{firstsOf, outsOf}
-use Rattle.messages.specs.LayoutLists.{concat-append, take-range, drop-range}
+use Rattle.messages.specs.LayoutLists.{take-range, drop-range}
 
 -- ---- the row of firsts
 

@@ -1,29 +1,26 @@
 -- The call over all read patterns: every pattern of an accepted one is accepted, of the evidence only its length counts, and what it leaves.
-use Prim.Native.Nat.{ℕ, _+_, _*_, _/_, _≤_, _<_}
-use native.Mathlib.Omega.{arith}
+use Prim.Native.Nat.{ℕ, _*_}
 use mathlib.Core.Path.{_≡_, refl, sym, ap, _∙_}
-use mathlib.Core.Bool.{Bool, false, _||_}
+use mathlib.Core.Bool.{Bool, false}
 use mathlib.Core.Option.{Option}
 use mathlib.Core.List.{List, [], _∷_, map}
 use lib.Dec.{ltb}
 use lib.Ieee.{Float}
 use lib.ListN.{length, replicate, length-replicate}
-use Rattle.definition.specs.Floats.{zeroᶠ}
 use Rattle.definition.specs.Lists.{range, concat, howMany, patterns}
 use Rattle.definition.specs.Settings.{Settings}
 use Rattle.definition.specs.FactorGraph.{Evidence, Pair, Bale}
-use Rattle.definition.specs.Refusals.{Verdict, accepted, refused, tooMany, workNeeded, markersOf, pairsOf, baleOf, lowestPlace, orRefused, verdict}
-use Rattle.definition.specs.Call.{overwrite}
-use Rattle.definition.specs.Reads.{withReads, presentUnder}
-use Rattle.definition.specs.Patterns.{isAbove, isNotAbove, isMissing, patternCount, patternCounts, PatternBuffers, ampleFor, allWeak, patternVerdict, PatternLent, patternSizes, reported, PatternResult, patternResult, patternCall}
-use Rattle.claims.specs.Refused.{smallWorkFloats, smallWorkNumbers}
-use Rattle.claims.specs.AllPatterns.{shortReport, asCalled, EveryPatternAccepted, EvidenceUnread, PatternAnswered, PatternCallAnswered}
+use Rattle.definition.specs.Refusals.{Verdict, accepted, markersOf, pairsOf, baleOf, lowestPlace, orRefused, verdict}
+use Rattle.definition.specs.Reads.{withReads, allWeak, presentUnder, isAbove, isNotAbove, isMissing}
+use Rattle.definition.specs.Report.{ReportBuffers, ampleFor, sizesVerdict, ReportLent, reportSizes, ReportResult, reportResult}
+use Rattle.definition.specs.Patterns.{patternCount, patternCounts, patternVerdict, patternCall}
+use Rattle.claims.specs.AllPatterns.{EveryPatternAccepted, EvidenceUnread, PatternCallAnswered}
 use Rattle.graph_laws.specs.Accepted.{passed, passes-all}
-use Rattle.graph_laws.specs.Overwriting.{over-length}
-use Rattle.graph_laws.specs.Twos.{length-twos}
+use Rattle.report_laws.specs.Under.{reads-accepted, room-under}
+use Rattle.report_laws.specs.Sizes.{Sized, sizes-passed}
+use Rattle.report_laws.specs.Result.{result-lengths}
+use Rattle.report_laws.specs.Unread.{markers-same, weak-same, sizes-same, result-same}
 use Rattle.pattern_laws.specs.Report.{report-long}
-use Rattle.pattern_laws.specs.Table.{none-fails}
-use Rattle.pattern_laws.specs.Under.{reads-accepted, room-under}
 
 -- ---- every pattern is accepted
 
@@ -32,9 +29,10 @@ unfolding patternVerdict allWeak
 every-pattern-accepted s f b h rs n =
     let m = length (b .markers) in
     let e : length (replicate m false) ≡ length rs = length-replicate m false ∙ sym n in
-    let v = passed 2 _ _ (passed 1 _ _ (passed 18 _ _ h .1) .1) .1 in
-    let room = passes-all s (ampleFor f b) (allWeak b) v .buffers .0 in
-    reads-accepted s (ampleFor f b) (ampleFor f b) b (replicate m false) rs e (sym (room-under (ampleFor f b) b (replicate m false) rs e) ∙ room) v
+    let v = sizes-passed f (3 * b .grades) b _ (passed 18 _ _ h .1) .1 in
+    let p = passes-all s (ampleFor f b) (allWeak b) v in
+    reads-accepted s s (ampleFor f b) (ampleFor f b) b (replicate m false) rs e (p .numbers) refl refl
+    (sym (room-under (ampleFor f b) b (replicate m false) rs e) ∙ p .buffers .0) v
 
 -- ---- the evidence
 
@@ -50,78 +48,39 @@ module _ (g : ℕ) (ps : List Pair) (ms ns : List Evidence) (e : length ms ≡ l
   unfolding patternCounts
   counts-same s = λ i. concat (map (λ h. count-same s isAbove h i ∷ count-same s isNotAbove h i ∷ count-same s isMissing h i ∷ []) (range 0 g))
 
-  verdict-same : (s : Settings) (f : PatternBuffers) → patternVerdict s f (given ms) ≡ patternVerdict s f (given ns)
-  unfolding patternVerdict allWeak ampleFor withReads tooMany
+  verdict-same : (s : Settings) (f : ReportBuffers) → patternVerdict s f (given ms) ≡ patternVerdict s f (given ns)
+  unfolding patternVerdict ampleFor
   verdict-same s f =
-      ap
-      (λ (n : ℕ).
-      orRefused 18 (lowestPlace (ltb 10 n ∷ []))
-      (orRefused 1 (lowestPlace ((ltb 1024 g || ltb 1024 n || ltb 8192 (length ps)) ∷ []))
-      (orRefused 2 (lowestPlace (ltb (f .report) (3 * g) ∷ [])) (verdict s (ampleFor f (given ms)) (withReads (replicate n false) (given ms))))))
-      e
+      let weakly : Bale → Verdict = verdict s (ampleFor f (given ms)) in
+      let sizes =
+      sizes-same g ps ms ns e f (3 * g) (weakly (allWeak (given ms))) ∙ ap (λ (b : Bale). sizesVerdict f (3 * g) (given ns) (weakly b)) (weak-same g ps ms ns e) in
+      λ i. orRefused 18 (lowestPlace (ltb 10 (e i) ∷ [])) (sizes i)
 
-  pub work-same : workNeeded (given ms) ≡ workNeeded (given ns)
-  unfolding workNeeded
-  work-same = ap (λ (n : ℕ). 64 * (g + n + length ps) + 4096) e
-
-  result-same : (v : Verdict) (s : Settings) (l : PatternLent) → patternResult v s (given ms) l ≡ patternResult v s (given ns) l
-  unfolding patternResult
-  result-same accepted s l =
-      λ i. record {
-        outcome = reported g;
-        lent = record {
-          workFloats = overwrite (replicate (work-same i) zeroᶠ) (l .workFloats);
-          workNumbers = overwrite (replicate (work-same i) 0) (l .workNumbers);
-          report = overwrite (counts-same s i) (l .report);
-        };
-      }
-  result-same (refused n p) s l = refl
-
-  pub call-same : (s : Settings) (l : PatternLent) (f : PatternBuffers) → patternResult (patternVerdict s f (given ms)) s (given ms) l ≡ patternResult (patternVerdict s f (given ns)) s (given ns) l
-  call-same s l f = ap (λ (v : Verdict). patternResult v s (given ms) l) (verdict-same s f) ∙ result-same (patternVerdict s f (given ns)) s l
+  pub call-same : (s : Settings) (l : ReportLent) (f : ReportBuffers) →
+      reportResult (patternVerdict s f (given ms)) (given ms) g (patternCounts s (given ms)) l
+      ≡ reportResult (patternVerdict s f (given ns)) (given ns) g (patternCounts s (given ns)) l
+  call-same s l f =
+      result-same g ps ms ns e (patternVerdict s f (given ms)) g (patternCounts s (given ms)) l
+      ∙ (λ i. reportResult (verdict-same s f i) (given ns) g (counts-same s i) l)
 
 pub evidence-unread : EvidenceUnread
-unfolding patternCall baleOf markersOf
-evidence-unread s g es fs ps l e =
-    let long = length-twos {B = Evidence} (λ a p. record { absent = a; present = p }) in
-    call-same g (pairsOf ps) (markersOf es) (markersOf fs) (long es ∙ ap (λ (n : ℕ). n / 2) e ∙ sym (long fs)) s l (patternSizes l)
+unfolding patternCall baleOf
+evidence-unread s g es fs ps l e = call-same g (pairsOf ps) (markersOf es) (markersOf fs) (markers-same es fs e) s l (reportSizes l)
 
 -- ---- what it leaves
 
-module _ (s : Settings) (g : ℕ) (es : List Float) (ps : List ℕ) (l : PatternLent) where
-  abbrev judged : Verdict
-  judged = patternVerdict s (patternSizes l) (baleOf g es ps)
-
-  -- the report and the needed work fit
-  fits : judged ≡ accepted → (length (patternCounts s (baleOf g es ps)) ≤ length (l .report)) × (workNeeded (baleOf g es ps) ≤ length (l .workFloats)) × (workNeeded (baleOf g es ps) ≤ length (l .workNumbers))
-  unfolding patternSizes ampleFor workNeeded
-  fits h =
-      let none = none-fails s (patternSizes l) (baleOf g es ps) h in
-      let b = baleOf g es ps in
-      let w = workNeeded b in
-      let long : length (l .report) < 3 * b .grades → ⊥ = λ k. none 2 0 (shortReport k) in
-      let floats : length (l .workFloats) < w → ⊥ = λ k. none 2 0 (asCalled (omega arith) (smallWorkFloats k)) in
-      let numbers : length (l .workNumbers) < w → ⊥ = λ k. none 2 0 (asCalled (omega arith) (smallWorkNumbers k)) in
-      (omega (arith, report-long s b), omega arith, omega arith)
-
-  same-lengths : (v : Verdict) → judged ≡ v → patternSizes (patternResult v s (baleOf g es ps) l .lent) ≡ patternSizes l
-  unfolding patternResult patternSizes
-  same-lengths (refused n p) h = refl
-  same-lengths accepted h =
-      let b = baleOf g es ps in
-      let f = fits h in
-      λ i. record {
-        workFloats = over-length (replicate (workNeeded b) zeroᶠ) (l .workFloats) (omega (arith, length-replicate (workNeeded b) zeroᶠ, f .1)) i;
-        workNumbers = over-length (replicate (workNeeded b) 0) (l .workNumbers) (omega (arith, length-replicate {A = ℕ} (workNeeded b) 0, f .2)) i;
-        report = over-length (patternCounts s b) (l .report) (f .0) i;
-      }
-
-  abbrev resultFor : Verdict → PatternResult
-  resultFor v = patternResult v s (baleOf g es ps) l
-
-  answered : PatternAnswered s g es ps l
-  unfolding patternCall patternResult baleOf
-  answered = record { accepted-call = λ h. ap resultFor h; refused-call = λ n p h. ap resultFor h; same-lengths = same-lengths judged refl }
+-- the report and the needed work fit
+sized : (s : Settings) (f : ReportBuffers) (b : Bale) → patternVerdict s f b ≡ accepted → Sized f (length (patternCounts s b)) b
+unfolding patternVerdict
+sized s f b h = rw (report-long s b) (sizes-passed f (3 * b .grades) b _ (passed 18 _ _ h .1) .0)
 
 pub call-answered : PatternCallAnswered
-call-answered s g es ps l = answered s g es ps l
+unfolding patternCall reportResult baleOf
+call-answered s g es ps l =
+    let b = baleOf g es ps in
+    let resultFor : Verdict → ReportResult = λ v. reportResult v b g (patternCounts s b) l in
+    record {
+      accepted-call = λ h. ap resultFor h;
+      refused-call = λ n p h. ap resultFor h;
+      same-lengths = result-lengths b g (patternCounts s b) l (patternVerdict s (reportSizes l) b) (sized s (reportSizes l) b);
+    }

@@ -1,52 +1,23 @@
 -- Which grades have no belief: in the report of all patterns a grade in no pair is missing in every pattern, and any other in none.
 use Prim.Native.Nat.{ℕ, zero, suc, _<_}
 use mathlib.Core.Path.{_≡_, refl, ap, _∙_}
-use mathlib.Core.Bool.{Bool, true, false, not, _||_, false≢true}
-use mathlib.Core.Option.{Option, none, some}
+use mathlib.Core.Bool.{Bool, true, false, not}
 use mathlib.Core.List.{List, [], _∷_, map}
-use lib.Dec.{eqb}
-use lib.Ieee.{Float}
 use lib.ListN.{length}
-use Rattle.definition.specs.Lists.{patterns, mem}
-use Rattle.definition.specs.Vectors.{entry}
+use Rattle.definition.specs.Lists.{patterns}
 use Rattle.definition.specs.Settings.{Settings}
 use Rattle.definition.specs.FactorGraph.{Bale}
-use Rattle.definition.specs.Answer.{Belief, answer, answeredBeliefs, beliefNumbers}
 use Rattle.definition.specs.Refusals.{accepted}
-use Rattle.definition.specs.Reads.{withReads, presentOf, presentUnder}
-use Rattle.definition.specs.Patterns.{isMissing, PatternBuffers, ampleFor, patternVerdict}
+use Rattle.definition.specs.Reads.{presentUnder, isMissing}
+use Rattle.definition.specs.Report.{ReportBuffers, ampleFor}
+use Rattle.definition.specs.Patterns.{patternVerdict}
 use Rattle.claims.specs.Parts.{inPair}
 use Rattle.claims.specs.AllPatterns.{MissingIsUnpaired, UnpairedMissing}
-use Rattle.graph_laws.specs.Bools.{bool-iff, eqb-sound, eqb-same}
 use Rattle.graph_laws.specs.Lists.{All, All-append, All-mono, filter-none, filter-every}
 use Rattle.graph_laws.specs.Patterns.{length-patterns}
-use Rattle.graph_laws.specs.Paired.{believed-paired}
+use Rattle.report_laws.specs.Missing.{missing-under}
 use Rattle.pattern_laws.specs.Report.{patterns-counted}
 use Rattle.pattern_laws.specs.Call.{every-pattern-accepted}
-
--- the answer has no belief of a grade exactly if the grade is not among those answered
-missing-not : (xs : List Belief) (g : ℕ) → isMissing (presentOf xs g) ≡ not (mem eqb g (beliefNumbers xs))
-unfolding presentOf beliefNumbers
-missing-not [] g = refl
-missing-not (x ∷ xs) g = go (eqb (x .grade) g) (missing-not xs g) ∙ ap (λ (c : Bool). not (c || mem eqb g (beliefNumbers xs))) swap
-  where
-    swap : eqb (x .grade) g ≡ eqb g (x .grade)
-    swap =
-        bool-iff (eqb (x .grade) g) (eqb g (x .grade)) (λ e. ap (λ (n : ℕ). eqb g n) (eqb-sound (x .grade) g e) ∙ eqb-same g)
-        (λ e. ap (λ (n : ℕ). eqb (x .grade) n) (eqb-sound g (x .grade) e) ∙ eqb-same (x .grade))
-
-    go : (c : Bool) → isMissing (presentOf xs g) ≡ not (mem eqb g (beliefNumbers xs))
-        → isMissing (elim c [ true ↦ some (entry 1 (x .value)) | false ↦ presentOf xs g ]) ≡ not (c || mem eqb g (beliefNumbers xs))
-    go true r = refl
-    go false r = r
-
--- so a grade that is not among them has none
-pub not-among : (g : ℕ) (xs : List Belief) → mem eqb g (beliefNumbers xs) ≡ false → presentOf xs g ≡ none
-not-among g xs e = go (presentOf xs g) (missing-not xs g ∙ ap not e)
-  where
-    go : (o : Option Float) → isMissing o ≡ true → o ≡ none
-    go none h = refl
-    go (some x) h = absurd (false≢true h)
 
 -- one read more before each
 longer : (c : Bool) (m : ℕ) (ps : List (List Bool)) → All (λ rs. length rs ≡ m) ps → All (λ rs. length rs ≡ suc m) (map (λ (rs : List Bool). c ∷ rs) ps)
@@ -62,18 +33,15 @@ patterns-long (suc m) =
     All-append (λ rs. length rs ≡ suc m) (map (λ (rs : List Bool). false ∷ rs) (patterns m)) (map (λ (rs : List Bool). true ∷ rs) (patterns m))
     (longer false m (patterns m) r) (longer true m (patterns m) r)
 
-module _ (s : Settings) (f : PatternBuffers) (b : Bale) (h : patternVerdict s f b ≡ accepted) (g : ℕ) (l : g < b .grades) where
+module _ (s : Settings) (f : ReportBuffers) (b : Bale) (h : patternVerdict s f b ≡ accepted) (g : ℕ) (l : g < b .grades) where
   -- in a pattern
-  missing-under : (rs : List Bool) → length rs ≡ length (b .markers) → isMissing (presentUnder s b rs g) ≡ not (inPair b g)
-  unfolding withReads
-  missing-under rs n =
-      missing-not (answeredBeliefs (answer s (withReads rs b))) g
-      ∙ ap not (believed-paired s (ampleFor f b) (withReads rs b) (every-pattern-accepted s f b h rs n) g l)
+  missing-in : (rs : List Bool) → length rs ≡ length (b .markers) → isMissing (presentUnder s b rs g) ≡ not (inPair b g)
+  missing-in rs n = missing-under s (ampleFor f b) b rs (every-pattern-accepted s f b h rs n) g l
 
   -- in every pattern alike
   missing-each : (c : Bool) → not (inPair b g) ≡ c → All (λ rs. isMissing (presentUnder s b rs g) ≡ c) (patterns (length (b .markers)))
   missing-each c e =
-      All-mono (λ rs. length rs ≡ length (b .markers)) (λ rs. isMissing (presentUnder s b rs g) ≡ c) (λ rs n. missing-under rs n ∙ e)
+      All-mono (λ rs. length rs ≡ length (b .markers)) (λ rs. isMissing (presentUnder s b rs g) ≡ c) (λ rs n. missing-in rs n ∙ e)
       (patterns (length (b .markers))) (patterns-long (length (b .markers)))
 
   reported-unpaired : MissingIsUnpaired s b g

@@ -6,10 +6,11 @@ use mathlib.Core.Path.{_≡_, refl, sym, ap, _∙_}
 use mathlib.Core.Bool.{Bool, true, false}
 use mathlib.Core.List.{List, [], _∷_, _++_}
 use lib.Dec.{eqb}
-use lib.ListN.{length, replicate}
+use lib.ListN.{length}
 use Rattle.definition.specs.Lists.{consIf, howMany, patterns}
 use Rattle.graph_laws.specs.Lengths.{double}
 use Rattle.graph_laws.specs.Patterns.{passing}
+use Rattle.report_laws.specs.Counts.{oneIf}
 
 -- ---- pattern p of m markers: marker i is read strongly if bit i of p is set
 
@@ -30,16 +31,7 @@ pattern-snoc (suc m) p =
     (pattern-snoc m (p / 2)
     ∙ ap (λ (q : ℕ). patternAt m (p / 2) ++ eqb (q % 2) 1 ∷ []) (div-div-eq-div-mul p 2 (2 ^ m) ∙ ap (λ (k : ℕ). p / k) e))
 
--- pattern 0 has weak reads only
-pub pattern-zero : (m : ℕ) → patternAt m 0 ≡ replicate m false
-pattern-zero zero = refl
-pattern-zero (suc m) = ap (λ (l : List Bool). false ∷ l) (pattern-zero m)
-
 -- ---- how many numbers below n pass
-
-abbrev pub oneIf : Bool → ℕ
-oneIf true = 1
-oneIf false = 0
 
 abbrev pub countTo : ℕ → (ℕ → Bool) → ℕ
 countTo zero f = 0

@@ -10,8 +10,8 @@ use lib.ListN.{length, getD}
 use Rattle.definition.specs.Lists.{range, consIf, filter, concat, howMany, patterns}
 use Rattle.definition.specs.Settings.{Settings}
 use Rattle.definition.specs.FactorGraph.{Bale}
-use Rattle.definition.specs.Reads.{aboveHalf, presentUnder}
-use Rattle.definition.specs.Patterns.{isAbove, isNotAbove, isMissing, patternCount, patternCounts}
+use Rattle.definition.specs.Reads.{aboveHalf, presentUnder, isAbove, isNotAbove, isMissing}
+use Rattle.definition.specs.Patterns.{patternCount, patternCounts}
 use Rattle.claims.specs.AllPatterns.{GradeCounted, PatternsCounted}
 use Rattle.graph_laws.specs.Patterns.{length-patterns}
 

@@ -1,31 +1,28 @@
 -- The table of refusals of a call over all read patterns: refused with the first cause, 18 ahead of all others, and accepted exactly if there is none.
-use Prim.Native.Nat.{ℕ, zero, suc, _+_, _*_}
+use Prim.Native.Nat.{ℕ, zero, suc, _*_}
 use native.Mathlib.Omega.{arith}
-use mathlib.Core.Path.{_≡_, refl, ap, _∙_}
+use mathlib.Core.Path.{_≡_, refl, ap}
 use mathlib.Core.Logic.{_⊎_, inl, inr}
-use mathlib.Core.Bool.{Bool, true, false, _||_, false≢true}
-use mathlib.Core.Option.{Option, none}
+use mathlib.Core.Bool.{true, false, _||_, false≢true}
 use mathlib.Core.List.{List, [], _∷_, map}
 use borrow.Author.Tests.{ltb-true, lt-ltb}
-use lib.Dec.{leb, ltb}
-use lib.ListN.{length, replicate, getD}
-use Rattle.definition.specs.Lists.{range}
+use lib.Dec.{ltb}
+use lib.ListN.{length, getD}
 use Rattle.definition.specs.Settings.{Settings}
-use Rattle.definition.specs.FactorGraph.{Pair, Bale, markerNumbers}
-use Rattle.definition.specs.Refusals.{Buffers, Verdict, accepted, outside, leastProbability, greatestProbability, tooMany, workNeeded, tooSmall, badTolerance, badEvidence, unknownPair, lowestPlaceFrom, lowestPlace, repeatedPairs, tooManyGrades, orRefused, verdict}
-use Rattle.definition.specs.Reads.{withReads}
-use Rattle.definition.specs.Patterns.{PatternBuffers, ampleFor, allWeak, patternVerdict}
+use Rattle.definition.specs.FactorGraph.{Bale, markerNumbers}
+use Rattle.definition.specs.Refusals.{accepted, outside, leastProbability, greatestProbability, tooMany, tooSmall, badTolerance, unknownPair, lowestPlace, repeatedPairs, tooManyGrades, orRefused}
+use Rattle.definition.specs.Report.{ReportBuffers, ampleFor, sizesVerdict}
+use Rattle.definition.specs.Patterns.{patternVerdict}
 use Rattle.claims.specs.Refused.{Fails}
 use Rattle.claims.specs.AllPatterns.{PatternFails, manyMarkers, shortReport, asCalled, patternOrder, PatternTable}
 use Rattle.graph_laws.specs.Bools.{or-cases, or-left, or-right}
-use Rattle.graph_laws.specs.Accepted.{nowhere}
 use Rattle.graph_laws.specs.FirstChecks.{Check, test, numberAt, firstOf, accepted-none, accepted-exactly, refused-exactly}
 use Rattle.graph_laws.specs.Refused.{checks, row, listed}
-use Rattle.pattern_laws.specs.Under.{good-reads, all-weak-markers}
+use Rattle.report_laws.specs.Sizes.{sizes-once}
 
 -- ---- the checks as lists of tests, in their order
 
-abbrev patternChecks : Settings → PatternBuffers → Bale → List Check
+abbrev patternChecks : Settings → ReportBuffers → Bale → List Check
 patternChecks s f b =
     (18, ltb 10 (length (b .markers)) ∷ [])
     ∷ (1, tooMany 1024 1024 8192 b ∷ [])
@@ -39,50 +36,10 @@ patternChecks s f b =
 
 -- ---- the verdict is the first of them
 
--- 1 and 2 of the plain call, behind 1 and a short report
-merged : (c d e : Bool) (v : Verdict) →
-    orRefused 1 (lowestPlace (c ∷ [])) (orRefused 2 (lowestPlace (d ∷ [])) (orRefused 1 (lowestPlace (c ∷ [])) (orRefused 2 (lowestPlace (e ∷ [])) v)))
-    ≡ orRefused 1 (lowestPlace (c ∷ [])) (orRefused 2 (lowestPlace ((d || e) ∷ [])) v)
-unfolding orRefused lowestPlace lowestPlaceFrom
-merged true d e v = refl
-merged false true e v = refl
-merged false false true v = refl
-merged false false false v = refl
-
-module _ (s : Settings) (b : Bale) where
-  -- what is left from 3 on, 5 having found o, of so many markers
-  abbrev later : ℕ → Option ℕ → Verdict
-  later m o =
-      orRefused 3 (lowestPlace (map (outside leastProbability greatestProbability) (s .alpha ∷ s .beta ∷ s .prior ∷ [])))
-      (orRefused 4 (lowestPlace (badTolerance (s .tolerance) ∷ ltb 1000000 (s .loopLimit) ∷ []))
-      (orRefused 5 o
-      (orRefused 6 (lowestPlace (map (λ (q : Pair). leb (b .grades) (q .grade) || leb m (q .marker)) (b .pairs)))
-      (orRefused 7 (lowestPlace (repeatedPairs [] (b .pairs))) (orRefused 8 (lowestPlace (map (tooManyGrades b) (range 0 m))) accepted)))))
-
-  abbrev judgedOf : Buffers → ℕ → Option ℕ → Verdict
-  judgedOf f m o =
-      let g = b .grades in
-      let w = 64 * (g + m + length (b .pairs)) + 4096 in
-      let small = ltb (f .workFloats) w || ltb (f .workNumbers) w || ltb (f .beliefNumbers) g || ltb (f .beliefFloats) (2 * g) || ltb (f .endingNumbers) (4 * g) || ltb (f .endingFloats) g in
-      orRefused 1 (lowestPlace ((ltb 1024 g || ltb 1024 m || ltb 8192 (length (b .pairs))) ∷ [])) (orRefused 2 (lowestPlace (small ∷ [])) (later m o))
-
-  -- the bale with all markers read weakly is judged by its own markers' number, and 5 finds nothing
-  weakly : (f : Buffers) → verdict s f (allWeak b)
-      ≡ orRefused 1 (lowestPlace (tooMany 1024 1024 8192 b ∷ [])) (orRefused 2 (lowestPlace (tooSmall f b ∷ [])) (later (length (b .markers)) none))
-  unfolding verdict allWeak withReads tooMany workNeeded tooSmall unknownPair tooManyGrades lowestPlace
-  weakly f =
-      ap (judgedOf f (length (allWeak b .markers))) (nowhere 0 (map badEvidence (allWeak b .markers)) (good-reads (replicate (length (b .markers)) false)))
-      ∙ ap (λ (m : ℕ). judgedOf f m none) (all-weak-markers b)
-
-module _ (s : Settings) (f : PatternBuffers) (b : Bale) where
+module _ (s : Settings) (f : ReportBuffers) (b : Bale) where
   verdict-first : patternVerdict s f b ≡ firstOf (patternChecks s f b)
-  unfolding patternVerdict unknownPair tooManyGrades orRefused
-  verdict-first =
-      let c = tooMany 1024 1024 8192 b in
-      let d = ltb (f .report) (3 * b .grades) in
-      ap (λ (v : Verdict). orRefused 18 (lowestPlace (ltb 10 (length (b .markers)) ∷ [])) (orRefused 1 (lowestPlace (c ∷ [])) (orRefused 2 (lowestPlace (d ∷ [])) v)))
-      (weakly s b (ampleFor f b))
-      ∙ ap (orRefused 18 (lowestPlace (ltb 10 (length (b .markers)) ∷ []))) (merged c d (tooSmall (ampleFor f b) b) (later s b (length (b .markers)) none))
+  unfolding patternVerdict sizesVerdict unknownPair tooManyGrades orRefused
+  verdict-first = ap (orRefused 18 (lowestPlace (ltb 10 (length (b .markers)) ∷ []))) (sizes-once s f (3 * b .grades) b (λ v. v))
 
   -- ---- the rows
 

@@ -12,22 +12,22 @@ use Rattle.definition.specs.FactorGraph.{Bale}
 use Rattle.definition.specs.Refusals.{Buffers, accepted, workNeeded, pairsOf, baleOf, verdict}
 use Rattle.definition.specs.Answer.{answer, answeredBeliefs}
 use Rattle.definition.specs.Call.{overwrite}
-use Rattle.definition.specs.Reads.{withReads, presentOf}
+use Rattle.definition.specs.Reads.{presentOf}
 use Rattle.definition.specs.Patterns.{patternCounts}
 use Rattle.graph_laws.specs.Accepted.{passes-all}
 use Rattle.graph_laws.specs.AnswerSizes.{answer-sizes}
 use Rattle.graph_laws.specs.CallLengths.{Room, room}
 use Rattle.graph_laws.specs.Overwriting.{over-length, over-other, over-again}
+use Rattle.report_laws.specs.Unread.{work-same}
 use Rattle.pattern_laws.specs.Numbers.{patternAt}
 use Rattle.pattern_laws.specs.Report.{report-long}
-use Rattle.pattern_laws.specs.Call.{work-same}
-use Rattle.reads.specs.Put.{markers-of-reads}
+use Rattle.reads.specs.Put.{readFloats}
+use Rattle.reads.specs.Room.{read-bale}
 use Rattle.reads.specs.Ran.{roomWith}
 use Rattle.patterns.specs.Tally.{started, started-long, start-long}
 use Rattle.patterns.specs.Beliefs.{cell, stepped, tally, tally-long, tally-behind, tally-row}
-use Rattle.patterns.specs.Pattern.{patternBale, Ready, Added}
+use Rattle.patterns.specs.Pattern.{patternBale, markers-many, Ready, Added}
 use Rattle.patterns.specs.Counting.{CountedTo, counted-start, counted-next, counted-rooms, presentIn, counted-done}
-use Rattle.patterns.specs.Judged.{markers-many}
 
 pub record Countable (s : Settings) (g m : ℕ) (ps : List ℕ) (es wf wn r : ℕ) : Type 0 where
   pub markers : m ≤ 10
@@ -95,10 +95,6 @@ module _ (s : Settings) (g m : ℕ) (ps : List ℕ) where
   unfolding baleOf
   same-work p = work-same g (pairsOf ps) _ _ (markers-many g m p ps ∙ sym (markers-many g m 0 ps))
 
-  pub read-bale : (p : ℕ) → withReads (patternAt m p) (patternBale g m 0 ps) ≡ patternBale g m p ps
-  unfolding withReads baleOf
-  read-bale p = λ i. record { grades = g; markers = sym (markers-of-reads (patternAt m p)) i; pairs = pairsOf ps }
-
   module _ (wf₀ : List Float) (wn₀ r₀ : List ℕ) (es : ℕ) (C : Countable s g m ps es (length wf₀) (length wn₀) (length r₀)) where
     abbrev lent : Buffers
     lent = roomWith (length wf₀) (length wn₀) 1024 2048
@@ -128,7 +124,7 @@ module _ (s : Settings) (g m : ℕ) (ps : List ℕ) where
         let q = patternBale g m p ps in
         ap (λ (x : List ℕ). cell x h j) e
         ∙ tally-row (answeredBeliefs (answer s q)) r h j k (omega (arith, n, C .report)) (answer-sizes s lent q (C .accepts p) .once)
-        ∙ ap (λ (x : Bale). stepped (presentOf (answeredBeliefs (answer s x)) h) j (cell r h j)) (sym (read-bale p))
+        ∙ ap (λ (x : Bale). stepped (presentOf (answeredBeliefs (answer s x)) h) j (cell r h j)) (sym (read-bale g (readFloats (patternAt m 0)) ps (patternAt m p)))
 
     pub so-next :
         (p k k′ : ℕ) (wf : List Float) (wn r : List ℕ) (wf′ : List Float) (wn′ r′ : List ℕ) → CountedSo p k wf₀ wn₀ r₀ wf wn r → p < 2 ^ m →

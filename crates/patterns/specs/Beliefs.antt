@@ -18,7 +18,7 @@ use Rattle.graph_laws.specs.Lists.{All}
 use Rattle.graph_laws.specs.Ranks.{NoDup}
 use Rattle.graph_laws.specs.AnswerSizes.{TwoFloats}
 use Rattle.definition.specs.Reads.{aboveHalf, presentOf}
-use Rattle.pattern_laws.specs.Missing.{not-among}
+use Rattle.report_laws.specs.Missing.{not-among}
 use Rattle.patterns.specs.Tally.{sideAt, side-small, HasRoom, moved, moved-long, tallied, Movable}
 
 -- number j of grade h's row

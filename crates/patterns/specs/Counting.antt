@@ -12,9 +12,10 @@ use Rattle.definition.specs.Settings.{Settings}
 use Rattle.definition.specs.FactorGraph.{Bale}
 use Rattle.definition.specs.Call.{overwrite}
 use Rattle.definition.specs.Lists.{howMany, patterns}
-use Rattle.definition.specs.Reads.{aboveHalf, presentUnder}
-use Rattle.definition.specs.Patterns.{isAbove, isNotAbove, isMissing, patternCount, patternCounts}
-use Rattle.pattern_laws.specs.Numbers.{patternAt, oneIf, countTo, countTo-le, patterns-by-number}
+use Rattle.definition.specs.Reads.{aboveHalf, presentUnder, isAbove, isNotAbove, isMissing}
+use Rattle.definition.specs.Patterns.{patternCount, patternCounts}
+use Rattle.report_laws.specs.Counts.{oneIf}
+use Rattle.pattern_laws.specs.Numbers.{patternAt, countTo, countTo-le, patterns-by-number}
 use Rattle.pattern_laws.specs.Report.{rows-at, report-long, report-at}
 use Rattle.patterns.specs.Tally.{started, started-long}
 use Rattle.patterns.specs.Beliefs.{cell, movedBy, stepped, RowRoom}

@@ -6,17 +6,18 @@ use mathlib.Core.Bool.{Bool}
 use mathlib.Core.List.{List, _++_}
 use lib.Dec.{eqb}
 use lib.Ieee.{Float}
-use lib.ListN.{length, drop, replicate, length-replicate, drop-of-length-le}
+use lib.ListN.{length, drop, replicate, length-map, length-replicate, drop-of-length-le}
 use Rattle.definition.specs.Floats.{zeroᶠ}
 use Rattle.definition.specs.Settings.{Settings}
 use Rattle.definition.specs.FactorGraph.{Bale}
 use Rattle.definition.specs.Refusals.{accepted, workNeeded, baleOf, verdict}
 use Rattle.definition.specs.Answer.{answer, answeredBeliefs, beliefNumbers, beliefFloats}
 use Rattle.definition.specs.Call.{overwrite}
+use Rattle.definition.specs.Reads.{readEvidence}
 use Rattle.graph_laws.specs.Lists.{All-mono, append-none}
 use Rattle.graph_laws.specs.AnswerSizes.{answer-sizes}
 use Rattle.pattern_laws.specs.Numbers.{patternAt, length-pattern, pattern-snoc}
-use Rattle.reads.specs.Put.{putRead, readFloats, length-reads, put-next}
+use Rattle.reads.specs.Put.{putRead, readFloats, markers-of-reads, length-reads, put-next}
 use Rattle.reads.specs.Ran.{roomWith, Ran}
 use Rattle.patterns.specs.Tally.{tallied, Movable}
 use Rattle.patterns.specs.Beliefs.{RowRoom, tally, tallied-beliefs, movable-beliefs}
@@ -41,6 +42,13 @@ bits-done l m p h =
 -- the bale under pattern p
 abbrev pub patternBale : ℕ → ℕ → ℕ → List ℕ → Bale
 patternBale g m p ps = baleOf g (readFloats (patternAt m p)) ps
+
+pub reads-many : (m p : ℕ) → length (readFloats (patternAt m p)) / 2 ≡ m
+reads-many m p = omega (arith, length-reads (patternAt m p), length-pattern m p)
+
+pub markers-many : (g m p : ℕ) (ps : List ℕ) → length (patternBale g m p ps .markers) ≡ m
+unfolding baleOf
+markers-many g m p ps = ap length (markers-of-reads (patternAt m p)) ∙ length-map (patternAt m p) readEvidence ∙ length-pattern m p
 
 pub record Ready (s : Settings) (g m p : ℕ) (ps : List ℕ) (wf wn : ℕ) (r : List ℕ) : Type 0 where
   pub markers : m ≤ 10

@@ -1,75 +1,18 @@
 // The call: checked, and all its patterns counted if it is accepted.
 ghost use mathlib.Core.Path.{_≡_};
-ghost use Prim.Native.Nat.{_*_, _≤_};
 ghost use lib.ListN.{length};
-ghost use Rattle.definition.specs.Patterns.{patternVerdict, patternCall};
-ghost use Rattle.checks.specs.Verdicts.{verdictOf, settingsOf};
+ghost use Rattle.definition.specs.Patterns.{patternCall};
+ghost use Rattle.checks.specs.Verdicts.{settingsOf};
 ghost use Rattle.reads.specs.Ran.{settingsIn};
-ghost use Rattle.patterns.specs.Pattern.{patternBale};
-ghost use Rattle.patterns.specs.Judged.{floatsFor, sizesWith};
+ghost use Rattle.reads.specs.Reported.{reportLentWith, reportResultWith};
 ghost use Rattle.patterns.specs.All.{Countable, CountedAll};
-ghost use Rattle.patterns.specs.Called.{patternLentWith, patternResultWith};
 use crate::pattern::count_pattern;
-use crate::pattern::put_pattern;
 use crate::tally::start_report;
-use checks::Buffers;
 use checks::Verdict;
-use checks::check;
+use reads::ReportBuffers;
+use reads::ReportOutcome;
 use reads::Settings;
-
-// How many grades are reported, or a refusal's number and place.
-pub enum Counted {
-    Reported(u32),
-    Refused(u32, u32),
-}
-
-// Number 2 is for a short report as for short work: with such a report the work counts as none.
-fn floats_for(work_floats: usize, report: usize, grades: u32) -> usize
-    ensures { λ r. ⌜ r ≡ floatsFor «work_floats» report grades ⌝ }
-{
-    if report < 3 * grades as usize {
-        return 0;
-    }
-    work_floats
-}
-
-// What the checks say of at most 10 markers, each read weakly.
-fn judge(
-    settings: Settings,
-    grades: u32,
-    markers: usize,
-    evidence: &mut [f32],
-    pairs: &[u32],
-    work_floats: usize,
-    work_numbers: usize,
-    report: usize,
-) -> Verdict
-    requires { ⌜ (length (now evidence) ≡ 2 * markers) × (markers ≤ 10) ⌝ }
-    ensures { λ r. ⌜ verdictOf r ≡ patternVerdict (settingsIn settings) (sizesWith «work_floats» «work_numbers» report) (patternBale grades markers 0 (now (pairs .entry))) ⌝ }
-{
-    put_pattern(evidence, markers, 0);
-    let count = grades as usize;
-    let lent = Buffers {
-        work_floats: floats_for(work_floats, report, grades),
-        work_numbers: work_numbers,
-        belief_numbers: count,
-        belief_floats: 2 * count,
-        ending_numbers: 4 * count,
-        ending_floats: count,
-    };
-    check(
-        settings.alpha,
-        settings.beta,
-        settings.prior,
-        settings.regularised,
-        settings.tolerance,
-        settings.loop_limit,
-        grades,
-        evidence,
-        pairs,
-        lent,
-    )
-}
+use reads::check_weak;
 
 // Every pattern of an accepted call.
 fn count_all(
@@ -119,12 +62,12 @@ pub fn count_patterns(
     work_floats: &mut [f32],
     work_numbers: &mut [u32],
     report: &mut [u32],
-) -> Counted
-    ensures { λ r. ⌜ patternResultWith r (patternLentWith (now («work_floats» .exit)) (now («work_numbers» .exit)) (now (report .exit))) ≡ patternCall (settingsOf alpha beta prior regularised tolerance «loop_limit») grades (now (evidence .entry)) (now (pairs .entry)) (patternLentWith (now («work_floats» .entry)) (now («work_numbers» .entry)) (now (report .entry))) ⌝ }
+) -> ReportOutcome
+    ensures { λ r. ⌜ reportResultWith r (reportLentWith (now («work_floats» .exit)) (now («work_numbers» .exit)) (now (report .exit))) ≡ patternCall (settingsOf alpha beta prior regularised tolerance «loop_limit») grades (now (evidence .entry)) (now (pairs .entry)) (reportLentWith (now («work_floats» .entry)) (now («work_numbers» .entry)) (now (report .entry))) ⌝ }
 {
     let markers = evidence.len() / 2;
     if 10 < markers {
-        return Counted::Refused(18, 0);
+        return ReportOutcome::Refused(18, 0);
     }
     let settings = Settings {
         alpha: alpha,
@@ -134,22 +77,17 @@ pub fn count_patterns(
         tolerance: tolerance,
         loop_limit: loop_limit,
     };
-    let mut weak = [0.0; 20];
-    let n = 2 * markers;
-    let verdict = judge(
-        settings,
-        grades,
-        markers,
-        &mut weak[0..n],
-        pairs,
-        work_floats.len(),
-        work_numbers.len(),
-        report.len(),
-    );
+    let lent = ReportBuffers {
+        work_floats: work_floats.len(),
+        work_numbers: work_numbers.len(),
+        report: report.len(),
+    };
+    let verdict = check_weak(settings, grades, markers, pairs, lent, 3 * grades as usize);
     if let Verdict::Refused(number, place) = verdict {
-        return Counted::Refused(number, place);
+        return ReportOutcome::Refused(number, place);
     }
     let mut reads = [0.0; 20];
+    let n = 2 * markers;
     count_all(
         settings,
         grades,
@@ -160,5 +98,5 @@ pub fn count_patterns(
         work_numbers,
         report,
     );
-    Counted::Reported(grades)
+    ReportOutcome::Reported(grades)
 }

@@ -3,5 +3,4 @@ mod call;
 mod pattern;
 mod tally;
 
-pub use call::Counted;
 pub use call::count_patterns;

@@ -12,7 +12,7 @@ use reads::put_read;
 use reads::run_reads;
 
 // Marker m is read strongly if bit m of p is set.
-pub(crate) fn put_pattern(evidence: &mut [f32], markers: usize, p: u32)
+fn put_pattern(evidence: &mut [f32], markers: usize, p: u32)
     requires { ⌜ (length (now evidence) ≡ 2 * markers) × (markers ≤ 10) ⌝ }
     ensures { λ _. ⌜ now (evidence .exit) ≡ readFloats (patternAt markers p) ⌝ }
 {

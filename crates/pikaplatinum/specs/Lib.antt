@@ -1,4 +1,6 @@
 -- What the exported functions answer, tied to the definition.
 pub mod Reply
 pub mod Matches
+pub mod Reported
 pub mod AllPatterns
+pub mod TriedSettings

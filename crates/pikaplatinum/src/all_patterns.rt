@@ -2,10 +2,11 @@
 ghost use mathlib.Core.Path.{_≡_};
 ghost use Rattle.definition.specs.Patterns.{patternCall};
 ghost use Rattle.checks.specs.Verdicts.{settingsOf};
-ghost use Rattle.patterns.specs.Called.{patternLentWith};
-ghost use Rattle.pikaplatinum.specs.AllPatterns.{patternsTo, PatternAnswers};
-use patterns::Counted;
+ghost use Rattle.reads.specs.Reported.{reportLentWith};
+ghost use Rattle.pikaplatinum.specs.Reported.{ReportAnswers};
+ghost use Rattle.pikaplatinum.specs.AllPatterns.{patternsReply, patternsTo};
 use patterns::count_patterns;
+use reads::ReportOutcome;
 
 // How many grades are reported; or the refusal's number and place.
 #[repr(C)]
@@ -15,16 +16,16 @@ pub struct Patterns {
     pub grades: u32,
 }
 
-fn patterns_of(counted: Counted) -> Patterns
-    ensures { λ r. ⌜ r ≡ patternsTo counted ⌝ }
+fn patterns_of(outcome: ReportOutcome) -> Patterns
+    ensures { λ r. ⌜ r ≡ patternsTo outcome ⌝ }
 {
-    match counted {
-        Counted::Reported(grades) => Patterns {
+    match outcome {
+        ReportOutcome::Reported(grades) => Patterns {
             refusal: 0,
             place: 0,
             grades: grades,
         },
-        Counted::Refused(number, place) => Patterns {
+        ReportOutcome::Refused(number, place) => Patterns {
             refusal: number,
             place: place,
             grades: 0,
@@ -48,9 +49,9 @@ pub extern "C" fn pikaplatinum_count_patterns(
     work_numbers: &mut [u32],
     report: &mut [u32],
 ) -> Patterns
-    ensures { λ r. ⌜ PatternAnswers r (patternLentWith (now («work_floats» .exit)) (now («work_numbers» .exit)) (now (report .exit))) (patternCall (settingsOf alpha beta prior regularised tolerance «loop_limit») grades (now (evidence .entry)) (now (pairs .entry)) (patternLentWith (now («work_floats» .entry)) (now («work_numbers» .entry)) (now (report .entry)))) ⌝ }
+    ensures { λ r. ⌜ ReportAnswers patternsReply r (reportLentWith (now («work_floats» .exit)) (now («work_numbers» .exit)) (now (report .exit))) (patternCall (settingsOf alpha beta prior regularised tolerance «loop_limit») grades (now (evidence .entry)) (now (pairs .entry)) (reportLentWith (now («work_floats» .entry)) (now («work_numbers» .entry)) (now (report .entry)))) ⌝ }
 {
-    let counted = count_patterns(
+    let outcome = count_patterns(
         alpha,
         beta,
         prior,
@@ -64,5 +65,5 @@ pub extern "C" fn pikaplatinum_count_patterns(
         work_numbers,
         report,
     );
-    patterns_of(counted)
+    patterns_of(outcome)
 }

@@ -9,11 +9,14 @@ use zero_lookahead_belief_propagation::calibrate_all_subgraphs;
 
 mod all_patterns;
 mod matches;
+mod tried_settings;
 
 pub use all_patterns::Patterns;
 pub use all_patterns::pikaplatinum_count_patterns;
 pub use matches::Matches;
 pub use matches::pikaplatinum_match_reads;
+pub use tried_settings::Trials;
+pub use tried_settings::pikaplatinum_try_settings;
 
 // An outcome as numbers: refusal 0, and how many beliefs and endings there are; or the refusal's number and place.
 #[repr(C)]

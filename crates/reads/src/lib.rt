@@ -1,13 +1,20 @@
-// Markers read strongly or weakly: the evidence of such a read, and one run of the call under reads.
+// Markers read strongly or weakly: the evidence of such reads, one run of the call under them, and the checks of a call that makes many.
 ghost use mathlib.Core.Path.{_≡_};
-ghost use Prim.Native.Nat.{_+_, _*_, _<_};
-ghost use lib.ListN.{length};
+ghost use Prim.Native.Nat.{_+_, _*_, _≤_, _<_};
+ghost use lib.ListN.{length, take};
 ghost use Rattle.definition.specs.Refusals.{baleOf, accepted, verdict};
+ghost use Rattle.definition.specs.Call.{overwrite};
 ghost use Rattle.definition.specs.Reads.{aboveHalf};
-ghost use Rattle.reads.specs.Put.{putRead};
+ghost use Rattle.reads.specs.Put.{putRead, readFloats};
 ghost use Rattle.reads.specs.Ran.{settingsIn, roomWith, Ran};
 use zero_lookahead_belief_propagation::Outcome;
 use zero_lookahead_belief_propagation::calibrate_all_subgraphs;
+
+mod check;
+
+pub use check::ReportBuffers;
+pub use check::ReportOutcome;
+pub use check::check_weak;
 
 // What every run of a call is given.
 pub struct Settings {
@@ -31,6 +38,18 @@ pub fn put_read(evidence: &mut [f32], marker: usize, strong: bool)
     } else {
         evidence[at] = 0.9375;
         evidence[at + 1] = 0.0625;
+    }
+}
+
+// The evidence of the first `markers` reads; true is strong.
+pub fn put_reads(evidence: &mut [f32], markers: usize, reads: &[bool])
+    requires { ⌜ (2 * markers ≤ length (now evidence)) × (markers ≤ length (now reads)) ⌝ }
+    ensures { λ _. ⌜ now (evidence .exit) ≡ overwrite (readFloats (take markers (now (reads .entry)))) (now (evidence .entry)) ⌝ }
+{
+    let mut m: usize = 0;
+    while m < markers {
+        put_read(evidence, m, reads[m]);
+        m += 1;
     }
 }
 

@@ -14,11 +14,11 @@ use Rattle.definition.specs.Components.{subgraphOf, componentsOf}
 use Rattle.definition.specs.Refusals.{workNeeded}
 use Rattle.definition.specs.Answer.{PartAnswer, answersOf, answeredBeliefs}
 use Rattle.claims.specs.Parts.{AcceptedPart}
-use Rattle.graph_laws.specs.Lists.{All}
+use Rattle.graph_laws.specs.Lists.{All, concat-append}
 use Rattle.graph_laws.specs.AnswerSizes.{TwoFloats, answer-sizes}
 use Rattle.list_laws.specs.Part.{region}
 use Rattle.factor_graph.specs.Words.{label, componentWords, componentsWords}
-use Rattle.messages.specs.LayoutLists.{concat-append, drop-take}
+use Rattle.messages.specs.LayoutLists.{drop-take}
 use Rattle.messages.specs.DirectionsRecord.{Recorded, stands-front, stands-back, node-count, edge-count, record-long}
 use Rattle.messages.specs.DirectionsRead.{recorded-component}
 use Rattle.zero_lookahead.specs.Part.{KeptFront}

@@ -117,6 +117,15 @@ fn clear_floats(w: &mut [f32])
     }
 }
 
+// The work as a call leaves it, for calls that may make no run.
+pub fn clear_work(w: &mut [f32], words: &mut [u32])
+    ensures { λ _. ⌜ (now (w .exit) ≡ replicate (length (now (w .entry))) zeroᶠ) × (now (words .exit) ≡ replicate (length (now (words .entry))) 0) ⌝ }
+{
+    clear_floats(w);
+    let n = words.len();
+    clear(words, 0, n);
+}
+
 // An accepted call: the graph is built and cut in the work, its parts are answered, and the work is left zero.
 pub(crate) fn calibrate_accepted(
     w: &mut [f32],

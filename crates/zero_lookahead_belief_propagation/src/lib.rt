@@ -3,5 +3,6 @@ mod answer;
 mod calibrate;
 mod call;
 
+pub use calibrate::clear_work;
 pub use call::Outcome;
 pub use call::calibrate_all_subgraphs;

@@ -1,6 +1,6 @@
 -- `all_patterns::pikaplatinum_count_patterns` meets its contract.
 use mathlib.Core.Path.{ap, _∙_}
-use Rattle.definition.specs.Patterns.{PatternResult}
+use Rattle.definition.specs.Report.{ReportResult}
 use Rattle.pikaplatinum.specs.AllPatterns.{patternsReply}
 use borrow.Author.Needs.{needs}
 use Rattle.pikaplatinum.proofs.all_patterns.pikaplatinum_count_patterns.Statement.{statement}
@@ -24,7 +24,7 @@ same-length-3 c = search needs
 returns : tie.Need-returns
 returns c =
     let k = c .before .before .before .before .before .before .before .count-patterns .ensures in
-    record { reply = c .patterns-of .ensures ∙ ap (λ (x : PatternResult). patternsReply (x .outcome)) k; lent = ap (λ (x : PatternResult). x .lent) k }
+    record { reply = c .patterns-of .ensures ∙ ap (λ (x : ReportResult). patternsReply (x .outcome)) k; lent = ap (λ (x : ReportResult). x .lent) k }
 
 pub pikaplatinum-count-patterns-spec : {M : Type 1} → statement M
 pikaplatinum-count-patterns-spec =
