@@ -5,27 +5,36 @@
 mod buffer;
 #[path = "../differential/patterns/library.rs"]
 mod counting;
+mod graphs;
 #[path = "../differential/library.rs"]
 mod library;
 mod measure;
+#[path = "../differential/reporting.rs"]
+mod reporting;
 
 use counting::{Reply, count_patterns};
+use graphs::{at_random, film};
 use library::calibrate;
 use measure::{median, milliseconds, peak_stack};
 use oracle::call::Call;
 use oracle::listed_patterns::{crowds, of_graph, settings};
-use oracle::patterns::{self, Patterns, numbers_of, read_lists, with_reads};
-use oracle::random::Random;
-use oracle::shapes::{Graph, Room, complete, cycle, random_pairs};
+use oracle::patterns::{self, Patterns, numbers_of, read_lists};
+use oracle::reads::with_reads;
+use oracle::shapes::{Graph, complete, cycle};
+use reporting::Reporting;
 use std::hint::black_box;
+
+fn lent(request: &Patterns) -> Reporting {
+    Reporting::lent(&request.call.lent, request.report)
+}
 
 /// The library's counts, which are the reference's.
 fn compared(name: &str, request: &Patterns) {
     let wanted = patterns::count_patterns(request);
-    let mut lent = counting::Buffers::lent(request);
+    let mut lent = lent(request);
     assert!(count_patterns(request, &mut lent) == Reply::of(&wanted), "{name}: the replies differ");
     let numbers = numbers_of(&wanted.expect("an accepted graph"));
-    assert!(lent.intact() && lent.report.begins_with(&numbers), "{name}: the counts differ");
+    assert!(lent.holds(&numbers, request.call.lent.work_words), "{name}: the counts differ");
 }
 
 /// One line of the table: the three medians, and the counting's ratio to the plain calls and to the Rust.
@@ -33,7 +42,7 @@ fn line(name: &str, request: &Patterns) {
     compared(name, request);
     let lists = read_lists(request.call.marker_count());
     let calls: Vec<Call> = lists.iter().map(|reads| with_reads(&request.call, reads)).collect();
-    let (mut lent, mut plain) = (counting::Buffers::lent(request), library::Buffers::lent(&calls[0]));
+    let (mut lent, mut plain) = (lent(request), library::Buffers::lent(&calls[0]));
     let (mut ours, mut same, mut rust) = (vec![], vec![], vec![]);
     for _ in 0..if lists.len() > 100 { 7 } else { 301 } {
         ours.push(milliseconds(|| {
@@ -54,15 +63,6 @@ fn line(name: &str, request: &Patterns) {
     println!("| {name} | {} | {rust:.4} | {same:.4} | {ours:.4} | {ratios} |", lists.len());
 }
 
-/// The graph of examples/film.txt.
-fn film() -> Graph {
-    Graph { grades: 5, markers: 4, pairs: vec![(0, 0), (1, 0), (1, 1), (2, 1), (3, 2), (4, 3)] }
-}
-
-fn at_random(grades: usize, markers: usize, pairs: usize) -> Graph {
-    random_pairs(&mut Random::new(7), Room { grades, markers, pairs, grades_of_a_marker: 128 })
-}
-
 fn main() {
     let usual = |graph: &Graph| of_graph(settings([0.75, 0.0625, 0.25]), graph);
     println!("Milliseconds for all patterns.\n");
@@ -77,7 +77,7 @@ fn main() {
     line("10 markers, each on 64 grades of its own", &usual(&crowds(10, 64)));
     line("8 markers, each on 128 grades of its own", &usual(&crowds(8, 128)));
     let request = usual(&at_random(20, 10, 40));
-    let mut lent = counting::Buffers::lent(&request);
+    let mut lent = lent(&request);
     let stack = peak_stack(|| {
         black_box(count_patterns(black_box(&request), &mut lent));
     });

@@ -6,11 +6,13 @@ mod compare;
 mod hostile;
 mod library;
 mod patterns;
+mod reporting;
 mod seeds;
 mod shrink;
 mod small;
 mod threads;
 mod totals;
+mod trials;
 
 use compare::agrees_with;
 use oracle::alone::{entered_alone, parts_of};
@@ -124,10 +126,12 @@ fn main() {
         Some("alone") => alone(seed, count),
         Some("belts") => belts::all_small() && belts::random(seed, count),
         Some("patterns") => patterns::listed() && patterns::random(seed, count),
+        Some("trials") => trials::listed() && trials::random(seed, count),
         Some("seconds") => random_calls("any", seed, u64::MAX, Some(number(words.get(2), 60))),
         Some(kind @ ("any" | "accepted" | "hostile" | "limits")) => random_calls(kind, seed, count, None),
         _ => {
-            eprintln!("differential small | alone|belts|patterns SEED COUNT | any|accepted|wide|hostile|limits SEED COUNT | seconds SEED SECONDS");
+            eprintln!("differential small | alone|belts|patterns|trials SEED COUNT | any|accepted|wide|hostile|limits SEED COUNT");
+            eprintln!("differential seconds SEED SECONDS");
             std::process::exit(2);
         }
     };

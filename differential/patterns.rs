@@ -4,11 +4,11 @@
 mod library;
 mod totals;
 
-use crate::buffer::UNTOUCHED;
 use crate::compare::work_needed;
+use crate::reporting::Reporting;
 use crate::seeds::Kind;
 use crate::{shrink, small};
-use library::{Buffers, Reply, count_patterns};
+use library::{Reply, count_patterns};
 use oracle::call::Call;
 use oracle::generate_patterns::any_patterns;
 use oracle::listed_patterns;
@@ -18,19 +18,18 @@ use totals::Totals;
 
 type Outcome = Result<Vec<Standing>, Refusal>;
 
+fn lent(request: &Patterns) -> Reporting {
+    Reporting::lent(&request.call.lent, request.report)
+}
+
 fn agrees_with(request: &Patterns, outcome: &Outcome) -> bool {
-    let mut lent = Buffers::lent(request);
+    let mut lent = lent(request);
     let reply = count_patterns(request, &mut lent);
     let (numbers, work) = match outcome {
         Ok(standings) => (numbers_of(standings), work_needed(&request.call)),
         Err(_) => (vec![], 0),
     };
-    let zeros = vec![0; work];
-    reply == Reply::of(outcome)
-        && lent.intact()
-        && lent.work_floats.begins_with(&zeros)
-        && lent.work_numbers.begins_with(&zeros)
-        && lent.report.begins_with(&numbers)
+    reply == Reply::of(outcome) && lent.holds(&numbers, work)
 }
 
 fn compared(request: &Patterns, totals: &mut Totals) -> bool {
@@ -53,18 +52,10 @@ fn shrunk(request: &Patterns) -> Patterns {
 fn report(request: &Patterns) {
     let least = shrunk(request);
     let outcome = patterns::count_patterns(&least);
-    let mut lent = Buffers::lent(&least);
+    let mut lent = lent(&least);
     let reply = count_patterns(&least, &mut lent);
-    let word = |&word: &u32| if word == UNTOUCHED { " -".to_string() } else { format!(" {word}") };
-    let entries: String = lent.report.entries().iter().map(word).collect();
     let wanted = outcome.map(|standings| numbers_of(&standings));
-    println!("differs:\n{least}the reference: {wanted:?}\nthe library: {reply:?}\nits report:{entries}");
-    let not_zero = |words: &[u32]| words.iter().filter(|&&word| word != 0).count();
-    let work = [&lent.work_floats, &lent.work_numbers].map(|buffer| not_zero(buffer.entries()));
-    println!("not zero are {} work floats and {} work numbers", work[0], work[1]);
-    if !lent.intact() {
-        println!("the library wrote outside its buffers");
-    }
+    println!("differs:\n{least}the reference: {wanted:?}\nthe library: {reply:?}\n{lent}");
 }
 
 const PATTERNS: Kind<Patterns, Totals> = Kind {

@@ -2,6 +2,10 @@
 
 use oracle::call::{Call, Lent};
 use std::ops::Range;
+use std::time::{Duration, Instant};
+
+/// A call at the limits could be made smaller for hours.
+const LONGEST: Duration = Duration::from_secs(60);
 
 /// Runs of a list: long ones first, else a full list takes long; of a huge count no short ones.
 pub fn runs(count: usize) -> impl Iterator<Item = Range<usize>> {
@@ -81,9 +85,10 @@ fn smaller(call: &Call) -> impl Iterator<Item = Call> {
 }
 
 pub fn shrink(call: &Call, fails: impl Fn(&Call) -> bool) -> Call {
+    let begun = Instant::now();
     let mut least = call.clone();
     loop {
-        let found = smaller(&least).find(&fails);
+        let found = smaller(&least).take_while(|_| begun.elapsed() < LONGEST).find(&fails);
         let Some(less) = found else {
             return least;
         };

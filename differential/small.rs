@@ -2,7 +2,7 @@
 
 use oracle::call::{Call, Lent, Settings};
 
-const EVIDENCE: [[f32; 2]; 3] = [[0.5, 0.5], [0.9, 0.1], [0.0625, 0.9375]];
+pub const EVIDENCE: [[f32; 2]; 3] = [[0.5, 0.5], [0.9, 0.1], [0.0625, 0.9375]];
 
 fn settings() -> Vec<Settings> {
     let of = |regularised, tolerance, loop_limit| Settings {

@@ -1,5 +1,5 @@
-/* How likely each packaging grade is, from the tracer marks read in a bale; in how many patterns of reads a grade is likely; and two readers
- * over one belt, their reads held against each other.
+/* How likely each packaging grade is, from the tracer marks read in a bale; in how many patterns of reads a grade is likely; how well settings
+ * do on made-up bales; and two readers over one belt, their reads held against each other.
  *
  * A bale is a graph: grades (numbered from 0), markers (two evidence floats each, absent then present) and pairs (grade, then
  * marker: this grade carries this mark; up to 128 grades may carry one). Zero-lookahead belief propagation answers, part by part, a
@@ -33,6 +33,8 @@ enum pikaplatinum_refusal {
     PIKAPLATINUM_REPEATED = 7,       /* a pair given before; place the later pair */
     PIKAPLATINUM_CROWDED = 8,        /* a marker with over 128 grades; place the marker */
     PIKAPLATINUM_FALLING = 10,       /* of pikaplatinum_match_reads alone, which has 1, 2 and 10: see there */
+    PIKAPLATINUM_SEED = 16,          /* of pikaplatinum_try_settings alone, ahead of all others: see there */
+    PIKAPLATINUM_TRIALS = 17,        /* likewise, behind 16 alone */
     PIKAPLATINUM_MARKERS = 18        /* of pikaplatinum_count_patterns alone, ahead of all others: see there */
 };
 
@@ -118,6 +120,52 @@ struct pikaplatinum_patterns {
  *                   What is behind them stays as it was, and after a refusal all that is lent */
 struct pikaplatinum_patterns pikaplatinum_count_patterns(
     float alpha, float beta, float prior, bool regularised, float tolerance, uint32_t loop_limit, uint32_t grades,
+    const float *evidence, size_t evidence_length,
+    const uint32_t *pairs, size_t pairs_length,
+    float *work_floats, size_t work_floats_length,
+    uint32_t *work_numbers, size_t work_numbers_length,
+    uint32_t *report, size_t report_length);
+
+/* Settings tried on made-up bales: were alpha, beta and prior these, how often would the beliefs tell which grades are there?
+ *
+ * For each setting so many bales are made up by it, and each is run as one call with it. A bale draws its numbers one after the other, by
+ * Marsaglia's xorshift on 32 bits (left 13, right 17, left 5): a draw succeeds if the number reached modulo 1,024 is below its limit.
+ * First each grade, in order, draws against prior, and is present if it succeeds. Then each marker, in order, draws against beta once, and
+ * against alpha once for each of its present grades; it is strongly read (evidence 1/16, 15/16) if any of these succeeds, else weakly (15/16,
+ * 1/16), and no draw is left out once one has succeeded. The next bale goes on where this one ended; every setting starts from the seed, so
+ * that a setting is reported as by a call with it alone.
+ *
+ * Counted is, over all bales of a setting, how often a grade's present belief above 1/2 (exactly 1/2 is not) agrees with what was drawn, and
+ * how often it does not. A grade in no pair has no belief and is not counted: both add up to the bales times the grades in a pair.
+ *
+ * Refused, in this order: 16, seed 0, place 0; 17, over 64 settings or over 1,000 bales, place 0; then as the call is, but that 2 is for short
+ * work and for a report under two numbers a setting, 3 is for a number of `settings` outside 1 to 1,023, place its index there, and 5 does not
+ * occur. With no setting or no bale all checks are made and nothing is run.
+ *
+ * It takes as long as its calls, settings times bales of them, which may be 64,000, and can't be stopped meanwhile. A bale took 6.5 us for the
+ * graph of examples/film.txt, 53 us at 24 grades, 24 markers and 60 pairs, and 8.4 ms at the limits of grades, markers and pairs
+ * (docs/PERFORMANCE.md), so that 64,000 take half a second, 3.4 s or 9 minutes. It uses 244 KiB of stack. */
+
+/* refusal 0: so many settings were reported. Else the refusal's number and place. */
+struct pikaplatinum_trials {
+    uint32_t refusal;
+    uint32_t place;
+    uint32_t settings;
+};
+
+/*   settings        three whole numbers for each setting, alpha, beta and prior in 1,024ths; a rest of one or two numbers is not read
+ *   seed            where each setting's draws start; the seed itself is not drawn
+ *   bales           how many are made up for each setting
+ *   regularised, tolerance, loop_limit, grades
+ *                   as in the call
+ *   evidence        two floats for each marker, of which only the length counts: they are not read; an odd last one is no marker
+ *   pairs           as in the call
+ *   work            as long as pikaplatinum_sizes says; zeros are left in what was needed
+ *   report          two numbers for each setting, in order: agreed, not agreed. What is behind them stays as it was, and after a refusal all
+ *                   that is lent */
+struct pikaplatinum_trials pikaplatinum_try_settings(
+    const uint32_t *settings, size_t settings_length, uint32_t seed, uint32_t bales,
+    bool regularised, float tolerance, uint32_t loop_limit, uint32_t grades,
     const float *evidence, size_t evidence_length,
     const uint32_t *pairs, size_t pairs_length,
     float *work_floats, size_t work_floats_length,

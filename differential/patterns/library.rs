@@ -1,6 +1,7 @@
 //! The counts over all read patterns by the library's C interface.
 
-use crate::buffer::{Buffer, pointer_to};
+use crate::buffer::pointer_to;
+use crate::reporting::Reporting;
 use oracle::patterns::{Patterns, Standing};
 use oracle::refusal::Refusal;
 
@@ -45,27 +46,7 @@ unsafe extern "C" {
     ) -> Reply;
 }
 
-pub struct Buffers {
-    pub work_floats: Buffer,
-    pub work_numbers: Buffer,
-    pub report: Buffer,
-}
-
-impl Buffers {
-    pub fn lent(request: &Patterns) -> Buffers {
-        Buffers {
-            work_floats: Buffer::new(request.call.lent.work_floats),
-            work_numbers: Buffer::new(request.call.lent.work_words),
-            report: Buffer::new(request.report),
-        }
-    }
-
-    pub fn intact(&self) -> bool {
-        [&self.work_floats, &self.work_numbers, &self.report].iter().all(|buffer| buffer.intact())
-    }
-}
-
-pub fn count_patterns(request: &Patterns, lent: &mut Buffers) -> Reply {
+pub fn count_patterns(request: &Patterns, lent: &mut Reporting) -> Reply {
     let (call, s) = (&request.call, &request.call.settings);
     unsafe {
         pikaplatinum_count_patterns(

@@ -3,6 +3,7 @@
 use crate::call::{Call, Lent};
 use crate::limits::*;
 use crate::random::Random;
+use crate::reads::work_alone;
 
 /// One to three of these checks, the later ones first: the earlier ones' faults change the counts.
 pub(crate) fn some_of(random: &mut Random, checks: &[u32]) -> Vec<u32> {
@@ -47,6 +48,17 @@ fn too_little_lent(random: &mut Random, lent: &mut Lent) {
         _ => &mut lent.ending_floats,
     };
     *size = if random.once_in(3) { 0 } else { size.saturating_sub(1) };
+}
+
+/// Of a call that lends work and a report which needs so many numbers.
+pub(crate) fn too_little_reported(random: &mut Random, call: &mut Call, report: &mut usize, needed: usize) {
+    let work = work_alone(call);
+    let (size, needed) = match random.below(3) {
+        0 => (&mut call.lent.work_floats, work.work_floats),
+        1 => (&mut call.lent.work_words, work.work_words),
+        _ => (report, needed),
+    };
+    *size = random.pick(&[needed.saturating_sub(1), needed.saturating_sub(1), needed / 2, 0]);
 }
 
 fn bad_setting(random: &mut Random, call: &mut Call) {

@@ -13,7 +13,10 @@ pub const CHECKS: [u32; 9] = [18, 1, 2, 3, 4, 5, 6, 7, 8];
 pub fn put_in(random: &mut Random, request: &mut Patterns, number: u32) {
     match number {
         18 => too_many_markers(random, request),
-        2 => too_little_lent(random, request),
+        2 => {
+            let needed = request.report_needed();
+            faults::too_little_reported(random, &mut request.call, &mut request.report, needed);
+        }
         _ => faults::put_in(random, &mut request.call, number),
     }
     // Where the counts have changed, the buffers fit again or are short besides.
@@ -27,15 +30,4 @@ fn too_many_markers(random: &mut Random, request: &mut Patterns) {
     let markers = random.pick(&[MOST_PATTERN_MARKERS + 1, MOST_PATTERN_MARKERS + 1, 12, 128, MOST_MARKERS + 1]);
     let entry = random.pick(&[0.5, 0.5, f32::NAN]);
     request.call.evidence.resize(2 * markers + random.below(2), entry);
-}
-
-fn too_little_lent(random: &mut Random, request: &mut Patterns) {
-    let needed = Patterns::new(request.call.clone());
-    let lent = &mut request.call.lent;
-    let (size, needed) = match random.below(3) {
-        0 => (&mut lent.work_floats, needed.call.lent.work_floats),
-        1 => (&mut lent.work_words, needed.call.lent.work_words),
-        _ => (&mut request.report, needed.report),
-    };
-    *size = random.pick(&[needed.saturating_sub(1), needed.saturating_sub(1), needed / 2, 0]);
 }

@@ -6,7 +6,7 @@ use crate::limits::*;
 use crate::random::Random;
 use crate::shapes::{any_graph, chain, complete, cycle, random_pairs, wide, Graph, Room};
 
-const SMALL: Room = Room { grades: 134, markers: 40, pairs: 280, grades_of_a_marker: MOST_GRADES_OF_A_MARKER };
+pub(crate) const SMALL: Room = Room { grades: 134, markers: 40, pairs: 280, grades_of_a_marker: MOST_GRADES_OF_A_MARKER };
 
 fn setting(random: &mut Random) -> f32 {
     match random.below(6) {
@@ -134,8 +134,8 @@ pub fn any_call(random: &mut Random) -> Call {
     call
 }
 
-/// At the library's limits, or one past them.
-pub fn limits_call(random: &mut Random) -> Call {
+/// At the library's limits; now and then with one grade too many on a marker.
+pub(crate) fn limits_graph(random: &mut Random) -> Graph {
     let full = Room {
         grades: MOST_GRADES,
         markers: MOST_MARKERS,
@@ -143,7 +143,7 @@ pub fn limits_call(random: &mut Random) -> Call {
         grades_of_a_marker: MOST_GRADES_OF_A_MARKER,
     };
     let few = random.pick(&[64, 128]);
-    let graph = match random.below(8) {
+    match random.below(8) {
         0 | 1 => random_pairs(random, full),
         2 => random_pairs(random, Room { markers: few, ..full }),
         3 => chain(2 * MOST_GRADES),
@@ -151,7 +151,12 @@ pub fn limits_call(random: &mut Random) -> Call {
         5 => complete(MOST_GRADES_OF_A_MARKER, MOST_PAIRS / MOST_GRADES_OF_A_MARKER),
         6 => complete(8, MOST_MARKERS),
         _ => complete(MOST_GRADES_OF_A_MARKER + random.below(2), 2),
-    };
+    }
+}
+
+/// At the library's limits, or one past them.
+pub fn limits_call(random: &mut Random) -> Call {
+    let graph = limits_graph(random);
     let mut call = call_of(random, &graph);
     call.settings.loop_limit = random.pick(&[0, 5, 6, 300, PROGRAM_LOOPS]);
     if random.once_in(4) {

@@ -1,5 +1,6 @@
 //! Small graphs by seed, whose read patterns are all run.
 
+use crate::call::Call;
 use crate::faults;
 use crate::faults_of_patterns::{self, CHECKS};
 use crate::generate::call_of;
@@ -45,7 +46,7 @@ fn large_graph(random: &mut Random) -> Graph {
 }
 
 /// A graph, and grades and markers in no pair of it.
-fn any_graph(random: &mut Random) -> Graph {
+pub(crate) fn any_graph(random: &mut Random) -> Graph {
     let mut graph = if random.once_in(60) { large_graph(random) } else { usual_graph(random) };
     if random.once_in(3) {
         graph.grades = MOST_GRADES.min(graph.grades + random.within(1, 3));
@@ -67,34 +68,43 @@ fn halved(random: &mut Random) -> Patterns {
     Patterns::new(call)
 }
 
-fn usual(random: &mut Random) -> Patterns {
-    let graph = any_graph(random);
-    let mut call = call_of(random, &graph);
+/// A call of the graph that may be run so many times: what may never settle is kept short.
+pub(crate) fn repeated_call(random: &mut Random, graph: &Graph, times: u32) -> Call {
+    let mut call = call_of(random, graph);
     let settings = &mut call.settings;
     if random.once_in(3) {
         settings.tolerance = random.pick(&[0.0, PROGRAM_TOLERANCE, 0.5, 2.0]);
         settings.loop_limit = random.pick(&[0, 1, 5, 6, 7, 20, PROGRAM_LOOPS]);
     }
-    // What may never settle is run for every pattern.
     if settings.tolerance < 1e-3 {
-        settings.loop_limit = settings.loop_limit.min(10 + (4000 >> graph.markers));
+        settings.loop_limit = settings.loop_limit.min(10 + 4000 / times);
     }
-    Patterns::new(call)
+    call
+}
+
+fn usual(random: &mut Random) -> Patterns {
+    let graph = any_graph(random);
+    Patterns::new(repeated_call(random, &graph, 1 << graph.markers))
 }
 
 const STRANGE: [f32; 8] = [f32::NAN, f32::INFINITY, f32::NEG_INFINITY, 0.25, 2.0, 0.0, -0.0, -1.0];
 
+/// Other evidence, and room behind what is needed: neither makes a difference.
+pub(crate) fn vary_what_is_unread(random: &mut Random, call: &mut Call, report: &mut usize) {
+    if random.once_in(3) {
+        call.evidence.fill_with(|| random.pick(&STRANGE));
+    }
+    if random.once_in(3) {
+        call.lent.work_floats += random.within(1, 100);
+        call.lent.work_words += random.within(1, 100);
+        *report += random.within(1, 9);
+    }
+}
+
 /// A request that no check refuses, whatever its evidence is.
 pub fn accepted_patterns(random: &mut Random) -> Patterns {
     let mut request = if random.once_in(50) { halved(random) } else { usual(random) };
-    if random.once_in(3) {
-        request.call.evidence.fill_with(|| random.pick(&STRANGE));
-    }
-    if random.once_in(3) {
-        request.call.lent.work_floats += random.within(1, 100);
-        request.call.lent.work_words += random.within(1, 100);
-        request.report += random.within(1, 9);
-    }
+    vary_what_is_unread(random, &mut request.call, &mut request.report);
     request
 }
 

@@ -1,5 +1,5 @@
 //! The reference Rust with document 01's stand-ins, behind document 01's call,
-//! and references for document 02's belts and read patterns.
+//! and references for document 02's belts, read patterns and made-up bales.
 
 pub mod alone;
 pub mod bale;
@@ -8,29 +8,36 @@ pub mod call;
 pub mod faults;
 pub mod faults_of_belts;
 pub mod faults_of_patterns;
+pub mod faults_of_trials;
 pub mod generate;
 pub mod generate_belts;
 pub mod generate_files;
 pub mod generate_patterns;
+pub mod generate_trials;
 pub mod graph;
 pub mod hooks;
 pub mod limits;
 pub mod listed_patterns;
+pub mod listed_trials;
 pub mod log_table;
 pub mod longest;
 pub mod patterns;
 pub mod pieces;
 pub mod queue;
 pub mod random;
+pub mod reads;
 pub mod refusal;
 pub mod selfcheck;
 mod selfcheck_belts;
 mod selfcheck_calls;
 mod selfcheck_patterns;
+mod selfcheck_trial_refusals;
+mod selfcheck_trials;
 pub mod shapes;
 pub mod standins;
 pub mod text;
 pub mod tree;
+pub mod trials;
 pub mod wide;
 
 // The patched sources of the checkout; not all of them is called here.

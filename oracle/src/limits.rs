@@ -1,4 +1,4 @@
-//! The limits of document 01, and document 02's of reads and patterns.
+//! The limits of document 01, and document 02's of reads, patterns and trials.
 
 /// The longest vector for a direct convolution, as S-18 has it; the Rust's own is 64.
 pub const DIRECT_CONVOLUTION_MAX_LEN: usize = 256;
@@ -14,6 +14,10 @@ pub const MOST_READS: usize = 1024;
 
 /// Of a graph whose read patterns are all run.
 pub const MOST_PATTERN_MARKERS: usize = 10;
+
+/// Of one call that tries settings on made-up bales.
+pub const MOST_SETTINGS: usize = 64;
+pub const MOST_BALES: u32 = 1000;
 
 /// The program that reads a bale file takes fewer.
 pub const PROGRAM_GRADES: usize = 24;

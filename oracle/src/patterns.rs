@@ -2,17 +2,13 @@
 //! of reads are built marker by marker, each is a call of the Rust, and a grade
 //! without a belief is looked for in each, not got as what is left over.
 
-use std::collections::HashMap;
 use std::fmt;
 
-use crate::call::{call, first_refusal, Belief, Call, Lent, Outcome};
+use crate::call::{first_refusal, Call};
 use crate::limits::{MOST_GRADES, MOST_PAIRS, MOST_PATTERN_MARKERS};
+use crate::reads::{all_weak, is_work_short, present_beliefs, with_reads, work_alone, STRONG, WEAK};
 use crate::refusal::Refusal;
 use crate::text::write_call;
-
-/// Absent, then present.
-pub const STRONG: [f32; 2] = [0.0625, 0.9375];
-pub const WEAK: [f32; 2] = [0.9375, 0.0625];
 
 /// The call's evidence is only counted, and of what it lends only the work is
 /// looked at.
@@ -43,9 +39,7 @@ impl Patterns {
     }
 
     pub fn lend_needed(&mut self) {
-        let work =
-            Lent { belief_numbers: 0, belief_floats: 0, ending_numbers: 0, ending_floats: 0, ..needed(&self.call) };
-        self.call.lent = work;
+        self.call.lent = work_alone(&self.call);
         self.report = self.report_needed();
     }
 
@@ -65,19 +59,10 @@ pub fn numbers_of(standings: &[Standing]) -> Vec<u32> {
     standings.iter().flat_map(|grade| [grade.above, grade.not_above, grade.none]).collect()
 }
 
-fn needed(call: &Call) -> Lent {
-    Lent::needed(call.grades as usize, call.marker_count(), call.pair_count())
-}
-
 /// All lists of so many reads: each shorter one with either read behind it.
 pub fn read_lists(markers: usize) -> Vec<Vec<[f32; 2]>> {
     let longer = |reads: &Vec<[f32; 2]>| [STRONG, WEAK].map(|read| [reads.as_slice(), &[read]].concat());
     (0..markers).fold(vec![vec![]], |lists, _| lists.iter().flat_map(longer).collect())
-}
-
-/// The plain call with these reads, which lends enough.
-pub fn with_reads(graph: &Call, reads: &[[f32; 2]]) -> Call {
-    Call { evidence: reads.as_flattened().to_vec(), lent: needed(graph), ..graph.clone() }
 }
 
 /// The first check that fails: 18, 1, 2, then the plain call's own.
@@ -90,18 +75,10 @@ pub fn patterns_refusal(request: &Patterns) -> Option<Refusal> {
     if call.grades as usize > MOST_GRADES || call.pair_count() > MOST_PAIRS {
         return at_0(1);
     }
-    let work = call.lent.work_floats.min(call.lent.work_words);
-    if work < needed(call).work_words || *report < request.report_needed() {
+    if is_work_short(call) || *report < request.report_needed() {
         return at_0(2);
     }
-    first_refusal(&with_reads(call, &vec![WEAK; call.marker_count()]))
-}
-
-fn beliefs(request: &Call) -> Vec<Belief> {
-    match call(request) {
-        Outcome::Answered { beliefs, .. } => beliefs,
-        Outcome::Refused(refusal) => panic!("a pattern is refused {} at {}", refusal.number, refusal.place),
-    }
+    first_refusal(&all_weak(call))
 }
 
 /// One pattern's belief in a grade, if it has one.
@@ -123,8 +100,7 @@ pub fn count_patterns(request: &Patterns) -> Result<Vec<Standing>, Refusal> {
     let graph = &request.call;
     let mut standings = vec![Standing::default(); graph.grades as usize];
     for reads in read_lists(graph.marker_count()) {
-        let found = beliefs(&with_reads(graph, &reads));
-        let present: HashMap<u32, f32> = found.iter().map(|belief| (belief.grade, belief.present)).collect();
+        let present = present_beliefs(&with_reads(graph, &reads));
         (0..).zip(&mut standings).for_each(|(grade, standing)| stand(standing, present.get(&grade)));
     }
     Ok(standings)

@@ -11,6 +11,8 @@ use crate::random::Random;
 use crate::selfcheck_belts::belts;
 use crate::selfcheck_calls::{edges_of_range, graphs, order_of_refusals, refusals, wide_marks};
 use crate::selfcheck_patterns::patterns;
+use crate::selfcheck_trial_refusals::trials_refused_and_drawn;
+use crate::selfcheck_trials::trials;
 use crate::standins::{exp, powi};
 use crate::text::{read_call, write_call, write_outcome};
 use crate::tree::tree_messages;
@@ -44,6 +46,8 @@ pub fn run() -> bool {
     generated(&mut tally);
     belts(&mut tally);
     patterns(&mut tally);
+    trials(&mut tally);
+    trials_refused_and_drawn(&mut tally);
     println!("{} passed, {} failed", tally.passed, tally.failed);
     tally.failed == 0
 }

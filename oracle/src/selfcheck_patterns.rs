@@ -7,10 +7,9 @@ use crate::call::{call, Outcome};
 use crate::generate_patterns::{accepted_patterns, any_patterns};
 use crate::limits::*;
 use crate::listed_patterns::{halved, listed, of_graph, settings, two, usual};
-use crate::patterns::{
-    count_patterns, numbers_of, patterns_refusal, read_lists, with_reads, Patterns, Standing, STRONG, WEAK,
-};
+use crate::patterns::{count_patterns, numbers_of, patterns_refusal, read_lists, Patterns, Standing};
 use crate::random::Random;
+use crate::reads::{with_reads, STRONG, WEAK};
 use crate::selfcheck::Tally;
 use crate::shapes::complete;
 
