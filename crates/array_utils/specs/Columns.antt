@@ -1,21 +1,14 @@
 -- A row of pairs by its two columns: absent, present, absent, present and so on. A float that has no partner is not read.
 use mathlib.Core.Path.{_≡_, refl, sym, ap, _∙_}
-use mathlib.Core.List.{List, [], _∷_, map}
+use mathlib.Core.List.{List, [], _∷_}
 use Prim.Native.Nat.{ℕ, zero, suc, _+_, _*_, _/_, _<_}
 use native.Mathlib.Nat.{not-suc-le-zero}
 use native.Mathlib.Omega.{arith}
 use lib.ListN.{length, take, drop, getD}
 use lib.Ieee.{Float, nan}
-use Rattle.definition.specs.Vectors.{Message, entry}
-use Rattle.graph_laws.specs.Flat.{flat}
 
 double : (k : ℕ) → 2 * suc k ≡ suc (suc (2 * k))
 double k = omega arith
-
--- the messages of a node, each a pair, lie one after the other
-abbrev pub Pairs : List Message → Type 0
-Pairs [] = Unit {0}
-Pairs (m ∷ ms) = (length m ≡ 2) × Pairs ms
 
 -- ---- either column: which of a pair it takes
 module _ (pick : Float → Float → Float) where
@@ -68,14 +61,6 @@ module _ (pick : Float → Float → Float) where
   column-drop (suc k) (a ∷ []) = ap (λ (n : ℕ). column (drop n (a ∷ []))) (double k) ∙ ap column (drop-none (suc (2 * k)))
   column-drop (suc k) (a ∷ b ∷ l) = ap (λ (n : ℕ). column (drop n (a ∷ b ∷ l))) (double k) ∙ column-drop k l
 
-  pub column-flat : (ms : List Message) → Pairs ms → column (flat ms) ≡ map (λ (m : Message). pick (entry 0 m) (entry 1 m)) ms
-  unfolding flat
-  column-flat [] p = refl
-  column-flat ([] ∷ ms) p = let z : _≡_ {A = ℕ} 0 2 = p .0 in absurd (let n : ⊥ = omega arith in n)
-  column-flat ((a ∷ []) ∷ ms) p = let z : _≡_ {A = ℕ} 1 2 = p .0 in absurd (let n : ⊥ = omega arith in n)
-  column-flat ((a ∷ b ∷ []) ∷ ms) p = ap {B = List Float} (λ r. pick a b ∷ r) (column-flat ms (p .1))
-  column-flat ((a ∷ b ∷ x ∷ m) ∷ ms) p = let z : suc (suc (suc (length m))) ≡ 2 = p .0 in absurd (let n : ⊥ = omega arith in n)
-
 -- ---- the two
 abbrev pub absent : Float → Float → Float
 absent a b = a
@@ -88,9 +73,3 @@ absents = column absent
 
 abbrev pub presents : List Float → List Float
 presents = column present
-
-pub absents-flat : (ms : List Message) → Pairs ms → absents (flat ms) ≡ map (entry 0) ms
-absents-flat = column-flat absent
-
-pub presents-flat : (ms : List Message) → Pairs ms → presents (flat ms) ≡ map (entry 1) ms
-presents-flat = column-flat present

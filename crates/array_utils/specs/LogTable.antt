@@ -19,7 +19,7 @@ unfoldable pub ruled : ℕ → ℕ → Bool
 ruled i x = eqb x (logTableNumber i) && leb x (2 ^ 24)
 
 pub record Ruled (l : List ℕ) : Type 0 where
-  pub messageLength : length l ≡ 1025
+  pub count : length l ≡ 1025
   pub test : T (every ruled 0 l)
 
 denominator : ofNat (2 ^ 24) ≡ fin false 1 (pos 24)
@@ -29,7 +29,7 @@ denominator = refl
 module _ (l : List ℕ) (r : Ruled l) (i : ℕ) (h : i < 1025) where
   passed : T (eqb (getD l i 0) (logTableNumber i) && leb (getD l i 0) (2 ^ 24))
   unfolding ruled
-  passed = at ruled l (r .test) i (subst (λ (n : ℕ). i < n) (sym (r .messageLength)) h)
+  passed = at ruled l (r .test) i (subst (λ (n : ℕ). i < n) (sym (r .count)) h)
 
   pub number-at : getD l i 0 ≡ logTableNumber i
   number-at = eqb→eq (getD l i 0) (logTableNumber i) (and-l (eqb (getD l i 0) (logTableNumber i)) (leb (getD l i 0) (2 ^ 24)) passed)

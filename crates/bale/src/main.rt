@@ -1,104 +1,75 @@
-// Reads a bale file from standard input and writes its listing to standard output. A read that fails and an input of over MOST_BYTES
-// bytes end it with a line on standard error and no listing, a write that fails with such a line. There is no exit status to set.
+// Reads a bale file from standard input and writes its listing to standard output. A read that fails and an input of over MOST_BYTES bytes end it with a
+// line on standard error and no listing, a write that fails with such a line. There is no exit status to set.
 //
-// What is proved: it ends on every input, if `read` and `write` return, and what it hands to `write` is the definition's listing of the
-// pieces that it took in, one behind the other. Once a word is bad it takes in no more, since no further bytes change the listing
-// (`is_decided`). No contract can speak of the bytes that a call of C moves. That each piece is what `read` left in the buffer is to be
-// seen in `read_piece`, and that the bytes handed over come out rests on `write`.
+// What is proved: it ends on every input, if `read` and `write` return; what is taken in of each `read` is what that call gave, by its answer and by its
+// buffer (`take_read`); reading ends where the definition of specs/Program has it end, and not before a read (`read_input`); the listing is the definition's
+// of the bytes that came, and whether all of it was handed over follows from what `write` answered (`write_listing`). No contract of the kit says which
+// bytes a call of C moves. So it is to be seen, and is run by the tests, that `read_input` reads standard input and hands the answer on, that
+// `write_listing` writes to standard output, and which line goes to standard error.
 ghost use mathlib.Core.Path.{_≡_};
-ghost use mathlib.Core.List.{List};
-ghost use Prim.Native.Nat.{ℕ, _≤_};
 ghost use lib.ListN.{length};
-ghost use Rattle.bale_listing.specs.Taken.{TakenIn, SomeTaken, SomeTakenIn};
-ghost use Rattle.bale.specs.Reads.{AfterRead, AllRead};
-use bale_file::Decoder;
-use bale_listing::Input;
+ghost use Rattle.bale.specs.Taking.{SomeHeld, ReadBy, ListingHanded};
+
+mod input;
+
+use crate::input::Phase;
+use crate::input::Taking;
+use crate::input::begin;
+use crate::input::is_reading;
+use crate::input::put_listing;
+use crate::input::take_read;
 use libc::STDERR_FILENO;
 use libc::STDIN_FILENO;
 use libc::STDOUT_FILENO;
+use streams::hand_over;
 
-const MOST_BYTES: u64 = 4294967296;
-
-enum Piece {
-    More(Input),
-    End,
-    Failed,
-}
-
-// One read of the input, taken in.
-fn read_piece(input: Input, markers: &mut [u32], pairs: &mut [u32]) -> Piece
-    requires { ⌜ SomeTakenIn input (now markers) (now pairs) ⌝ }
-    requires { ⌜ input .bytes ≤ 4294967296 ⌝ }
-    ensures { λ r. ⌜ ((bs : List ℕ) → TakenIn bs input (now (markers .entry)) (now (pairs .entry)) → AfterRead bs (now (markers .entry)) (now (pairs .entry)) r (now (markers .exit)) (now (pairs .exit))) ⌝ }
+// Reads to the end of the input, or until no further byte counts.
+fn read_input(markers: &mut [u32], pairs: &mut [u32]) -> Taking
+    requires { ⌜ (length (now markers) ≡ 24) × (length (now pairs) ≡ 140) ⌝ }
+    ensures { λ r. ⌜ ReadBy r (now (markers .exit)) (now (pairs .exit)) ⌝ }
 {
     let mut buffer = io::large_buffer();
-    let got = libc::read(STDIN_FILENO, &mut buffer);
-    if got < 0 {
-        return Piece::Failed;
+    let mut taking = begin();
+    while is_reading(taking) {
+        let input = taking.input;
+        let got = libc::read(STDIN_FILENO, &mut buffer);
+        taking = take_read(input, got, &buffer, markers, pairs);
     }
-    let n = io::count(got, &buffer);
-    if n == 0 {
-        return Piece::End;
-    }
-    Piece::More(bale_listing::take_piece(input, &buffer[..n], markers, pairs))
+    taking
 }
 
-enum Whole {
-    Read(Decoder),
-    TooLong,
-    Unreadable,
-}
-
-// Reads to the end of the input, or until a word is bad.
-fn read_input(markers: &mut [u32], pairs: &mut [u32]) -> Whole
-    requires { ⌜ (length (now markers) ≡ 24) × (length (now pairs) ≡ 140) ⌝ }
-    ensures { λ r. ⌜ AllRead r (now (markers .exit)) (now (pairs .exit)) ⌝ }
-{
-    let mut input = bale_listing::begin();
-    while input.bytes <= MOST_BYTES {
-        let decoder = input.decoder;
-        if bale_listing::is_decided(decoder) {
-            return Whole::Read(decoder);
-        }
-        let piece = read_piece(input, markers, pairs);
-        match piece {
-            Piece::More(next) => {
-                input = next;
-            }
-            Piece::End => {
-                return Whole::Read(decoder);
-            }
-            Piece::Failed => {
-                return Whole::Unreadable;
-            }
-        }
-    }
-    Whole::TooLong
-}
-
-fn write_listing(decoder: Decoder, markers: &[u32], pairs: &[u32])
-    requires { ⌜ SomeTaken decoder (now markers) (now pairs) ⌝ }
+// The listing, if the input was read whole. Whether all of it was handed over.
+fn write_listing(taking: Taking, markers: &[u32], pairs: &[u32]) -> bool
+    requires { ⌜ SomeHeld taking (now markers) (now pairs) ⌝ }
+    ensures { λ r. ⌜ ListingHanded taking (now (markers .entry)) (now (pairs .entry)) r ⌝ }
 {
     let mut out = io::buffer();
-    let n = bale_listing::list_bale(decoder, markers, pairs, &mut out);
-    if !io::write_all(STDOUT_FILENO, &out[..n]) {
-        io::write_all(STDERR_FILENO, b"bale: the listing can't be written\n");
+    let n = put_listing(taking, markers, pairs, &mut out);
+    hand_over(STDOUT_FILENO, &out[..n])
+}
+
+// A line for what went wrong.
+fn complain(phase: Phase, written: bool) {
+    match phase {
+        Phase::TooLong => {
+            hand_over(STDERR_FILENO, b"bale: the input is too long\n");
+        }
+        Phase::Unreadable => {
+            hand_over(STDERR_FILENO, b"bale: the input can't be read\n");
+        }
+        Phase::Reading | Phase::Whole => {
+            if !written {
+                hand_over(STDERR_FILENO, b"bale: the listing can't be written\n");
+            }
+        }
     }
 }
 
 fn main() {
     let mut markers = [0; 24];
     let mut pairs = [0; 140];
-    let whole = read_input(&mut markers, &mut pairs);
-    match whole {
-        Whole::Read(decoder) => {
-            write_listing(decoder, &markers, &pairs);
-        }
-        Whole::TooLong => {
-            io::write_all(STDERR_FILENO, b"bale: the input is too long\n");
-        }
-        Whole::Unreadable => {
-            io::write_all(STDERR_FILENO, b"bale: the input can't be read\n");
-        }
-    }
+    let taking = read_input(&mut markers, &mut pairs);
+    let written = write_listing(taking, &markers, &pairs);
+    let phase = taking.phase;
+    complain(phase, written);
 }

@@ -37,7 +37,7 @@ kept-pairs w n h = either (eqb n 5) _ _ _ _
 
 -- ---- bytes to words
 
-fed-held : (bs : List ℕ) (h : Held) (x y z : ℕ) → heldIn (fed bs (fedHeld h 0 x y z)) ≡ readWords (words bs) h
+pub fed-held : (bs : List ℕ) (h : Held) (x y z : ℕ) → heldIn (fed bs (fedHeld h 0 x y z)) ≡ readWords (words bs) h
 unfolding words fed fedByte fedAt readWords
 fed-held [] h x y z = refl
 fed-held (a ∷ []) h x y z = refl

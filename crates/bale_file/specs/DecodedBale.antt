@@ -2,33 +2,18 @@
 use Prim.Native.Nat.{ℕ, _≤_, _<_}
 use mathlib.Core.Path.{_≡_, ap, _∙_}
 use mathlib.Core.List.{List, map}
-use lib.Dec.{eqb}
 use lib.Ieee.{Float}
 use lib.ListN.{length, take}
-use Rattle.definition.specs.Floats.{ratio}
-use Rattle.definition.specs.Settings.{Settings}
-use Rattle.definition.specs.BaleFile.{words, bits, evidenceOf, pairOf, settingsOf, baleOfWords}
+use Rattle.definition.specs.BaleFile.{words, bits, codedSettings, settingsOfWords, evidenceOf, pairOf, baleOfWords}
 use Rattle.definition.specs.Refusals.{markersOf, pairsOf, baleOf}
 use Rattle.bale_file.specs.Reading.{mostWords}
 use Rattle.bale_file.specs.Decoder.{Fed}
 use Rattle.bale_file.specs.Decoded.{Decoded, all-markers, all-pairs}
 
--- what `alpha`, `beta` and `is_regularised` give of the words of kinds 1 and 2, with the program's tolerance and loop limit
-abbrev pub settingsIn : ℕ → ℕ → Settings
-settingsIn r p =
-    record {
-      alpha = ratio (bits 20 10 r) 1024;
-      beta = ratio (bits 10 0 r) 1024;
-      prior = ratio (bits 10 0 p) 1024;
-      regularised = eqb (bits 11 10 p) 1;
-      tolerance = ratio 6 1000;
-      loopLimit = 10000;
-    }
-
 module _ (bs ms ps : List ℕ) (f : Fed) (d : Decoded bs ms ps f) where
-  pub decoded-settings : settingsIn (f .decoder .reading .rates) (f .decoder .reading .prior) ≡ settingsOf (words bs)
-  unfolding settingsOf
-  decoded-settings = λ i. settingsIn (d .rates i) (d .prior i)
+  pub decoded-settings : codedSettings (f .decoder .reading .rates) (f .decoder .reading .prior) ≡ settingsOfWords (words bs)
+  unfolding settingsOfWords
+  decoded-settings = λ i. codedSettings (d .rates i) (d .prior i)
 
   pub decoded-bale :
       (es : List Float) (qs : List ℕ) →

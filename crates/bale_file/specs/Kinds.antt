@@ -8,6 +8,8 @@ use mathlib.Core.Option.{none, some}
 use mathlib.Core.List.{List, [], _∷_}
 use borrow.Author.Tests.{lt-ltb, le-ltb, ltb-true, ltb-false, eqb-true, eqb-false, leb-true}
 use lib.Dec.{eqb, ltb, leb}
+use lib.ListN.{getD}
+use Rattle.definition.specs.Lists.{consIf}
 use Rattle.definition.specs.BaleFile.{wordKind, mayFollow, badWordFrom, wordsOfKind, firstOfKind}
 use Rattle.graph_laws.specs.Bools.{and-left}
 use Rattle.bale_file.specs.declared.reading.Reading.{Reading}
@@ -57,10 +59,11 @@ follows (suc (suc (suc (suc (suc (suc j)))))) k e = absurd (false≢true e)
 
 -- the word of kind k is the first one, if the words before it have come to a lower kind; a is what is there already
 module _ (k : ℕ) (low : k < 4) where
-  chosen : (j n w a r : ℕ) → mayFollow j n ≡ true → cond (ltb n k) r (cond (eqb n k) w a) ≡ cond (ltb j k) (cond (eqb n k) w r) a
+  chosen : (j n w a : ℕ) (r : List ℕ) → mayFollow j n ≡ true
+      → cond (ltb n k) (getD r 0 0) (cond (eqb n k) w a) ≡ cond (ltb j k) (getD (consIf (eqb n k) w r) 0 0) a
   chosen j n w a r e = go (ltb n k) refl (eqb n k) refl
     where
-      go : (b : Bool) → ltb n k ≡ b → (d : Bool) → eqb n k ≡ d → cond b r (cond d w a) ≡ cond (ltb j k) (cond d w r) a
+      go : (b : Bool) → ltb n k ≡ b → (d : Bool) → eqb n k ≡ d → cond b (getD r 0 0) (cond d w a) ≡ cond (ltb j k) (getD (consIf d w r) 0 0) a
       go true p true q = absurd (let z : ⊥ = omega (arith, ltb-true n k p, eqb-true n k q) in z)
       go true p false q = let l : j < k = ⊎-elim (λ o. omega (arith, o .0, o .1, ltb-true n k p)) (λ o. omega (arith, o .2, ltb-true n k p)) (follows j n e) in rw (lt-ltb j k l)
       go false p true q = let l : j < k = ⊎-elim (λ o. omega (arith, o .1, eqb-true n k q)) (λ o. omega (arith, o .1, eqb-true n k q)) (follows j n e) in rw (lt-ltb j k l)
@@ -76,19 +79,19 @@ module _ (k : ℕ) (low : k < 4) where
         h .reading .bad ≡ false →
         badWordFrom left i (h .reading .kind) ws ≡ none →
         field (readWords ws h .reading) ≡ cond (ltb (h .reading .kind) k) (firstOfKind k ws) (field (h .reading))
-    unfolding readWords firstOfKind keptWord
+    unfolding readWords firstOfKind wordsOfKind keptWord
     single left i [] h s e = rw (le-ltb (h .reading .kind) k (omega (arith, whole-end left i (h .reading .kind) e)))
     single left i (w ∷ ws) h s e =
         let good = whole-head left i (h .reading .kind) w ws e in
         ap (λ (g : Held). field (readWords ws g .reading)) (sym (read-good w h s (wordKind w) refl good))
         ∙ single left (suc i) ws (keptWord w (wordKind w) h) s (whole-tail left i (h .reading .kind) w ws e)
         ∙ ap (λ (n : ℕ). cond (ltb (wordKind w) k) (firstOfKind k ws) n) (kept w (wordKind w) h)
-        ∙ chosen (h .reading .kind) (wordKind w) w (field (h .reading)) (firstOfKind k ws) (and-left _ _ good)
+        ∙ chosen (h .reading .kind) (wordKind w) w (field (h .reading)) (wordsOfKind k ws) (and-left _ _ good)
 
 -- ---- kinds 4 and 5
 
 module _ (k most : ℕ) (view : Held → Slots) (kept : (w n : ℕ) (h : Held) → view (keptWord w n h) ≡ cond (eqb n k) (putOne most w (view h)) (view h)) where
-  put-kind : (b : Bool) (w : ℕ) (ws : List ℕ) (s : Slots) → putAll most ws (cond b (putOne most w s) s) ≡ putAll most (cond b (w ∷ ws) ws) s
+  put-kind : (b : Bool) (w : ℕ) (ws : List ℕ) (s : Slots) → putAll most ws (cond b (putOne most w s) s) ≡ putAll most (consIf b w ws) s
   unfolding putAll
   put-kind true w ws s = refl
   put-kind false w ws s = refl

@@ -1,30 +1,30 @@
--- Words laid into a slice, two entries to each: the evidence and the pairs of the bale that they stand for.
-use Prim.Native.Nat.{ℕ, zero, suc, _+_, _*_, _<_}
+-- Words laid over the front of a slice, two entries to each: the evidence and the pairs of the bale that they stand for.
+use Prim.Native.Nat.{ℕ, zero, suc, _+_, _*_, _/_, _≤_, _<_}
 use native.Mathlib.Numerals.{add-one}
 use native.Mathlib.Omega.{arith}
-use mathlib.Core.Path.{_≡_, refl, ap}
+use mathlib.Core.Path.{_≡_, refl, sym, ap, _∙_}
 use mathlib.Core.List.{List, [], _∷_, map}
 use lib.Ieee.{Float}
-use lib.ListN.{length, getD, set}
+use lib.ListN.{length, getD, set, take}
+use lib.Seq.{take-all}
 use Rattle.definition.specs.FactorGraph.{Evidence, Pair}
 use Rattle.definition.specs.BaleFile.{evidenceOf, pairOf}
 use Rattle.definition.specs.Refusals.{markersOf, pairsOf}
+use Rattle.definition.specs.Call.{overwrite}
 
 module _ {A : Type 0} (f g : ℕ → A) where
-  -- the first i words laid
-  unfoldable pub laid : ℕ → List ℕ → List A → List A
-  laid zero ws xs = xs
-  laid (suc i) [] xs = xs
-  laid (suc i) (w ∷ ws) [] = []
-  laid (suc i) (w ∷ ws) (x ∷ []) = x ∷ []
-  laid (suc i) (w ∷ ws) (x ∷ y ∷ xs) = f w ∷ g w ∷ laid i ws xs
+  abbrev pub inTwos : List ℕ → List A
+  inTwos [] = []
+  inTwos (w ∷ ws) = f w ∷ g w ∷ inTwos ws
 
+  -- the first words, as many as there is room for; the rest of the slice stays
+  abbrev pub laid : List ℕ → List A → List A
+  laid ws xs = overwrite (inTwos (take (length xs / 2) ws)) xs
+
+  -- one word more
   laid-suc :
-      (i : ℕ) (ws : List ℕ) (xs : List A) →
-      i < length ws →
-      length xs ≡ 2 * length ws →
-      set (set (laid i ws xs) (2 * i) (f (getD ws i 0))) (2 * i + 1) (g (getD ws i 0)) ≡ laid (suc i) ws xs
-  unfolding laid
+      (i : ℕ) (ws : List ℕ) (xs : List A) → i < length ws → 2 * i + 1 < length xs →
+      set (set (overwrite (inTwos (take i ws)) xs) (2 * i) (f (getD ws i 0))) (2 * i + 1) (g (getD ws i 0)) ≡ overwrite (inTwos (take (suc i) ws)) xs
   laid-suc i [] xs l e = absurd (let z : ⊥ = omega arith in z)
   laid-suc i (w ∷ ws) [] l e = absurd (let z : ⊥ = omega arith in z)
   laid-suc i (w ∷ ws) (x ∷ []) l e = absurd (let z : ⊥ = omega arith in z)
@@ -37,32 +37,54 @@ module _ {A : Type 0} (f g : ℕ → A) where
   pub laid-next :
       (i : ℕ) (ws : List ℕ) (xs ys : List A) (a b : A) →
       i < length ws →
-      length xs ≡ 2 * length ws →
-      ys ≡ laid i ws xs →
+      2 * i + 1 < length xs →
+      ys ≡ overwrite (inTwos (take i ws)) xs →
       a ≡ f (getD ws i 0) →
       b ≡ g (getD ws i 0) →
-      set (set ys (2 * i) a) (2 * i + 1) b ≡ laid (i + 1) ws xs
+      set (set ys (2 * i) a) (2 * i + 1) b ≡ overwrite (inTwos (take (i + 1) ws)) xs
   laid-next i ws xs ys a b l e p q r = rw (p, q, r, add-one i) (laid-suc i ws xs l e)
 
-  pub laid-none : (ws : List ℕ) (xs : List A) → xs ≡ laid 0 ws xs
-  unfolding laid
-  laid-none ws xs = refl
+  -- all that there is room for, or all words
+  pub laid-room : (n : ℕ) (ws : List ℕ) (xs : List A) → n ≡ length xs / 2 → overwrite (inTwos (take n ws)) xs ≡ laid ws xs
+  laid-room n ws xs e = ap (λ (k : ℕ). overwrite (inTwos (take k ws)) xs) e
 
-pub laid-markers :
-    (ws : List ℕ) (xs : List Float) →
-    length xs ≡ 2 * length ws →
-    markersOf (laid (λ w. evidenceOf w .absent) (λ w. evidenceOf w .present) (length ws) ws xs) ≡ map evidenceOf ws
-unfolding laid markersOf
-laid-markers [] [] e = refl
-laid-markers [] (x ∷ xs) e = absurd (let z : ⊥ = omega arith in z)
-laid-markers (w ∷ ws) [] e = absurd (let z : ⊥ = omega arith in z)
-laid-markers (w ∷ ws) (x ∷ []) e = absurd (let z : ⊥ = omega arith in z)
-laid-markers (w ∷ ws) (x ∷ y ∷ xs) e = ap (λ (l : List Evidence). evidenceOf w ∷ l) (laid-markers ws xs (omega arith))
+  pub laid-words : (n : ℕ) (ws : List ℕ) (xs : List A) → length ws ≤ n → n ≤ length xs / 2 → overwrite (inTwos (take n ws)) xs ≡ laid ws xs
+  laid-words n ws xs h k = ap (λ (vs : List ℕ). overwrite (inTwos vs) xs) (take-all n ws h ∙ sym (take-all (length xs / 2) ws (omega arith)))
 
-pub laid-pairs : (ws xs : List ℕ) → length xs ≡ 2 * length ws → pairsOf (laid (λ w. pairOf w .grade) (λ w. pairOf w .marker) (length ws) ws xs) ≡ map pairOf ws
-unfolding laid pairsOf
-laid-pairs [] [] e = refl
-laid-pairs [] (x ∷ xs) e = absurd (let z : ⊥ = omega arith in z)
-laid-pairs (w ∷ ws) [] e = absurd (let z : ⊥ = omega arith in z)
-laid-pairs (w ∷ ws) (x ∷ []) e = absurd (let z : ⊥ = omega arith in z)
-laid-pairs (w ∷ ws) (x ∷ y ∷ xs) e = ap (λ (l : List Pair). pairOf w ∷ l) (laid-pairs ws xs (omega arith))
+abbrev pub evidenceLaid : List ℕ → List Float → List Float
+evidenceLaid = laid (λ w. evidenceOf w .absent) (λ w. evidenceOf w .present)
+
+abbrev pub pairsLaid : List ℕ → List ℕ → List ℕ
+pairsLaid = laid (λ w. pairOf w .grade) (λ w. pairOf w .marker)
+
+-- ---- in a slice of just their length they are the bale's markers and pairs
+
+markers-whole :
+    (ws : List ℕ) (xs : List Float) → length xs ≡ 2 * length ws →
+    markersOf (overwrite (inTwos (λ w. evidenceOf w .absent) (λ w. evidenceOf w .present) ws) xs) ≡ map evidenceOf ws
+unfolding markersOf
+markers-whole [] [] e = refl
+markers-whole [] (x ∷ xs) e = absurd (let z : ⊥ = omega arith in z)
+markers-whole (w ∷ ws) [] e = absurd (let z : ⊥ = omega arith in z)
+markers-whole (w ∷ ws) (x ∷ []) e = absurd (let z : ⊥ = omega arith in z)
+markers-whole (w ∷ ws) (x ∷ y ∷ xs) e = ap (λ (l : List Evidence). evidenceOf w ∷ l) (markers-whole ws xs (omega arith))
+
+pub laid-markers : (ws : List ℕ) (xs : List Float) → length xs ≡ 2 * length ws → markersOf (evidenceLaid ws xs) ≡ map evidenceOf ws
+laid-markers ws xs e =
+    ap (λ (vs : List ℕ). markersOf (overwrite (inTwos (λ w. evidenceOf w .absent) (λ w. evidenceOf w .present) vs) xs)) (take-all (length xs / 2) ws (omega arith))
+    ∙ markers-whole ws xs e
+
+pairs-whole :
+    (ws xs : List ℕ) → length xs ≡ 2 * length ws →
+    pairsOf (overwrite (inTwos (λ w. pairOf w .grade) (λ w. pairOf w .marker) ws) xs) ≡ map pairOf ws
+unfolding pairsOf
+pairs-whole [] [] e = refl
+pairs-whole [] (x ∷ xs) e = absurd (let z : ⊥ = omega arith in z)
+pairs-whole (w ∷ ws) [] e = absurd (let z : ⊥ = omega arith in z)
+pairs-whole (w ∷ ws) (x ∷ []) e = absurd (let z : ⊥ = omega arith in z)
+pairs-whole (w ∷ ws) (x ∷ y ∷ xs) e = ap (λ (l : List Pair). pairOf w ∷ l) (pairs-whole ws xs (omega arith))
+
+pub laid-pairs : (ws xs : List ℕ) → length xs ≡ 2 * length ws → pairsOf (pairsLaid ws xs) ≡ map pairOf ws
+laid-pairs ws xs e =
+    ap (λ (vs : List ℕ). pairsOf (overwrite (inTwos (λ w. pairOf w .grade) (λ w. pairOf w .marker) vs) xs)) (take-all (length xs / 2) ws (omega arith))
+    ∙ pairs-whole ws xs e

@@ -8,6 +8,7 @@ pub mod Places
 pub mod Onto
 pub mod Kinds
 pub mod Decoded
+pub mod Spoilt
 pub mod DecodedBale
 pub mod Fractions
 pub mod Laid

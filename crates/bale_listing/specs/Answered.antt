@@ -8,8 +8,8 @@ use lib.Dec.{eqb}
 use lib.Ieee.{Float, binary32, ofBits, round}
 use lib.ListN.{length, replicate, length-replicate, length-append}
 use Rattle.definition.specs.Floats.{zeroᶠ, ratio}
-use Rattle.definition.specs.BaleFile.{bits}
-use Rattle.definition.specs.Settings.{Settings}
+use Rattle.definition.specs.BaleFile.{bits, codedSettings}
+use Rattle.definition.specs.Settings.{Settings, settingsOf}
 use Rattle.definition.specs.FactorGraph.{Bale}
 use Rattle.definition.specs.Refusals.{Verdict, accepted, refused, workNeeded, markersOf, baleOf, verdict}
 use Rattle.definition.specs.Answer.{PartAnswer, answer}
@@ -18,12 +18,10 @@ use Rattle.definition.specs.Call.{Lent, Result, sizesOf, answered, refusedAt, a
 use Rattle.definition.specs.Listing.{buffers, baleLine, partLines, refusal, verdictLines}
 use Rattle.claims.specs.Parts.{SettingsFit, EvidenceFits, AllEvidence}
 use Rattle.graph_laws.specs.CallLengths.{call-accepted}
-use Rattle.checks.specs.Verdicts.{settingsOf}
 use Rattle.checks.specs.Slices.{length-markers, length-pairs}
 use Rattle.zero_lookahead_belief_propagation.specs.declared.call.Outcome.{Outcome}
 use Rattle.zero_lookahead_belief_propagation.specs.declared.call.Outcome.the-variants.{Answered, Refused}
 use Rattle.zero_lookahead_belief_propagation.specs.Called.{outcomeOf, lentWith, resultWith}
-use Rattle.bale_file.specs.DecodedBale.{settingsIn}
 use Rattle.listing.specs.Lines.{Counts, countsLine, counts-line}
 use Rattle.listing.specs.Parts.{Parts, PartsFit, SomeParts}
 use Rattle.listing.specs.Answered.{answer-stands}
@@ -50,7 +48,7 @@ tolerance-is = refl
 pub settings-are :
     (r p : ℕ) (alpha′ beta′ prior′ : Float) (regularised′ : Bool) →
     alpha′ ≡ ratio (bits 20 10 r) 1024 → beta′ ≡ ratio (bits 10 0 r) 1024 → prior′ ≡ ratio (bits 10 0 p) 1024 → regularised′ ≡ eqb (bits 11 10 p) 1 →
-    settingsOf alpha′ beta′ prior′ regularised′ (ofBits binary32 1002740646) 10000 ≡ settingsIn r p
+    settingsOf alpha′ beta′ prior′ regularised′ (ofBits binary32 1002740646) 10000 ≡ codedSettings r p
 settings-are r p alpha′ beta′ prior′ regularised′ a b q g = λ i. settingsOf (a i) (b i) (q i) (g i) (tolerance-is i) 10000
 
 pub called :

@@ -10,7 +10,7 @@ use Rattle.definition.specs.Call.{overwrite}
 use Rattle.definition.specs.Settings.{Settings}
 use Rattle.definition.specs.FactorGraph.{Bale}
 use Rattle.definition.specs.Refusals.{Verdict, tooMany, lowestPlaceFrom, lowestPlace, orRefused, verdict}
-use Rattle.definition.specs.BaleFile.{words, badWord, settingsOf, baleOfWords}
+use Rattle.definition.specs.BaleFile.{words, badWord, settingsOfWords, baleOfWords}
 use Rattle.definition.specs.Listing.{buffers, refusal, verdictLines, fileLines, listing}
 use Rattle.list_laws.specs.Put.{put}
 use Rattle.listing.specs.Writing.{Written}
@@ -29,16 +29,20 @@ abbrev after : Bool → Verdict → Settings → Bale → List ℕ
 after b v s g = verdictLines (orRefused 1 (lowestPlace (b ∷ [])) v) s g
 
 module _ (bs : List ℕ) (whole : badWord bs ≡ none) where
-  good : listing bs ≡ after (tooMany 24 24 140 (baleOfWords (words bs))) (verdict (settingsOf (words bs)) buffers (baleOfWords (words bs))) (settingsOf (words bs)) (baleOfWords (words bs))
+  abbrev s : Settings
+  s = settingsOfWords (words bs)
+
+  abbrev b : Bale
+  b = baleOfWords (words bs)
+
+  good : listing bs ≡ after (tooMany 24 24 140 b) (verdict s buffers b) s b
   unfolding listing fileLines
   good = ap (λ (o : Option ℕ). fileLines o (words bs)) whole
 
-  pub listing-large : tooMany 24 24 140 (baleOfWords (words bs)) ≡ true → listing bs ≡ refusal 1 0
+  pub listing-large : tooMany 24 24 140 b ≡ true → listing bs ≡ refusal 1 0
   unfolding lowestPlace lowestPlaceFrom orRefused verdictLines
-  listing-large e = good ∙ ap (λ (b : Bool). after b (verdict (settingsOf (words bs)) buffers (baleOfWords (words bs))) (settingsOf (words bs)) (baleOfWords (words bs))) e
+  listing-large e = good ∙ ap (λ (c : Bool). after c (verdict s buffers b) s b) e
 
-  pub listing-small :
-      tooMany 24 24 140 (baleOfWords (words bs)) ≡ false →
-      listing bs ≡ verdictLines (verdict (settingsOf (words bs)) buffers (baleOfWords (words bs))) (settingsOf (words bs)) (baleOfWords (words bs))
+  pub listing-small : tooMany 24 24 140 b ≡ false → listing bs ≡ verdictLines (verdict s buffers b) s b
   unfolding lowestPlace lowestPlaceFrom orRefused
-  listing-small e = good ∙ ap (λ (b : Bool). after b (verdict (settingsOf (words bs)) buffers (baleOfWords (words bs))) (settingsOf (words bs)) (baleOfWords (words bs))) e
+  listing-small e = good ∙ ap (λ (c : Bool). after c (verdict s buffers b) s b) e

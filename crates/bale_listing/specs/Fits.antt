@@ -4,11 +4,10 @@ use mathlib.Core.Bool.{false}
 use mathlib.Core.List.{List, [], _∷_, map}
 use lib.Ieee.{binary32}
 use lib.Ieee.Fits.{round-fits}
-use Rattle.definition.specs.BaleFile.{evidenceOf}
+use Rattle.definition.specs.BaleFile.{evidenceOf, codedSettings}
 use Rattle.claims.specs.Parts.{SettingsFit, EvidenceFits, AllEvidence}
-use Rattle.bale_file.specs.DecodedBale.{settingsIn}
 
-pub settings-fit : (r p : ℕ) → SettingsFit (settingsIn r p)
+pub settings-fit : (r p : ℕ) → SettingsFit (codedSettings r p)
 settings-fit r p = record { alpha = round-fits binary32 false _ 1024; beta = round-fits binary32 false _ 1024; prior = round-fits binary32 false _ 1024 }
 
 pub evidence-fits : (ws : List ℕ) → AllEvidence EvidenceFits (map evidenceOf ws)

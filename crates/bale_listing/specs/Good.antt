@@ -11,7 +11,7 @@ use lib.Ieee.{Float}
 use lib.ListN.{length, take, length-map}
 use lib.Seq.{length-take-le}
 use Rattle.definition.specs.Refusals.{markersOf, pairsOf, baleOf, tooMany, verdict}
-use Rattle.definition.specs.BaleFile.{words, badWord, bits, wordsOfKind, evidenceOf, pairOf, baleOfWords}
+use Rattle.definition.specs.BaleFile.{words, badWord, bits, wordsOfKind, evidenceOf, pairOf, baleOfWords, codedSettings}
 use Rattle.definition.specs.Listing.{buffers, verdictLines, listing}
 use Rattle.claims.specs.Parts.{EvidenceFits, AllEvidence}
 use Rattle.graph_laws.specs.Bools.{bool-iff, or-no, no-ltb}
@@ -19,7 +19,7 @@ use Rattle.bale_file.specs.declared.decoder.Decoder.{Decoder}
 use Rattle.bale_file.specs.Reading.{mostWords}
 use Rattle.bale_file.specs.Decoder.{fedOf}
 use Rattle.bale_file.specs.Decoded.{Decoded, decoded-good}
-use Rattle.bale_file.specs.DecodedBale.{settingsIn, decoded-settings, decoded-bale}
+use Rattle.bale_file.specs.DecodedBale.{decoded-settings, decoded-bale}
 use Rattle.bale_listing.specs.Taken.{Taken}
 use Rattle.bale_listing.specs.Checks.{overCounts}
 use Rattle.bale_listing.specs.Cases.{listing-small}
@@ -39,7 +39,7 @@ pub record SomeSmall (d : Decoder) (ms ps : List ℕ) : Type 0 where
 -- what the library says of a bale in two slices, with the grades and the settings that were read
 abbrev pub linesOf : Decoder → List Float → List ℕ → List ℕ
 linesOf d es qs =
-    let s = settingsIn (d .reading .rates) (d .reading .prior) in
+    let s = codedSettings (d .reading .rates) (d .reading .prior) in
     let b = baleOf (bits 11 0 (d .reading .grades)) es qs in
     verdictLines (verdict s buffers b) s b
 
@@ -58,9 +58,9 @@ stopped a most n h = bool-iff (ltb a n) (ltb a (min most n)) (λ e. lt-ltb a (mi
 
 pub graded :
     (d : Decoder) (g : ℕ) → g ≡ bits 11 0 (d .reading .grades) → (es : List Float) (qs : List ℕ) →
-    let s = settingsIn (d .reading .rates) (d .reading .prior) in
+    let s = codedSettings (d .reading .rates) (d .reading .prior) in
     verdictLines (verdict s buffers (baleOf g es qs)) s (baleOf g es qs) ≡ linesOf d es qs
-graded d g e es qs = let s = settingsIn (d .reading .rates) (d .reading .prior) in ap (λ (n : ℕ). verdictLines (verdict s buffers (baleOf n es qs)) s (baleOf n es qs)) e
+graded d g e es qs = let s = codedSettings (d .reading .rates) (d .reading .prior) in ap (λ (n : ℕ). verdictLines (verdict s buffers (baleOf n es qs)) s (baleOf n es qs)) e
 
 -- the call that is asked
 pub sized-asked :

@@ -3,8 +3,8 @@ ghost use lib.ListN.{length};
 ghost use Prim.Native.Nat.{_≤_};
 ghost use Rattle.definition.specs.Refusals.{baleOf, verdict};
 ghost use Rattle.definition.specs.Listing.{buffers, verdictLines};
+ghost use Rattle.definition.specs.BaleFile.{codedSettings};
 ghost use Rattle.listing.specs.Writing.{Written};
-ghost use Rattle.bale_file.specs.DecodedBale.{settingsIn};
 ghost use Rattle.bale_listing.specs.Answered.{Called, Asked};
 use listing::put_bale;
 use listing::put_parts;
@@ -28,7 +28,7 @@ fn calibrate(
     ending_numbers: &mut [u32],
     ending_floats: &mut [f32],
 ) -> Outcome
-    ensures { λ r. ⌜ Called (settingsIn rates prior) grades (now (evidence .entry)) (now (pairs .entry)) (now («belief_numbers» .entry)) (now («belief_floats» .entry)) (now («ending_numbers» .entry)) (now («ending_floats» .entry)) r (now («belief_numbers» .exit)) (now («belief_floats» .exit)) (now («ending_numbers» .exit)) (now («ending_floats» .exit)) ⌝ }
+    ensures { λ r. ⌜ Called (codedSettings rates prior) grades (now (evidence .entry)) (now (pairs .entry)) (now («belief_numbers» .entry)) (now («belief_floats» .entry)) (now («ending_numbers» .entry)) (now («ending_floats» .entry)) r (now («belief_numbers» .exit)) (now («belief_floats» .exit)) (now («ending_numbers» .exit)) (now («ending_floats» .exit)) ⌝ }
 {
     let mut work_floats = [0.0; 16128];
     let mut work_numbers = [0; 16128];
@@ -62,7 +62,7 @@ pub(crate) fn list_answer(
 ) -> usize
     requires { ⌜ Asked grades (now evidence) (now pairs) ⌝ }
     requires { ⌜ 4096 ≤ length (now out) ⌝ }
-    ensures { λ r. ⌜ Written (now (out .entry)) 0 (verdictLines (verdict (settingsIn rates prior) buffers (baleOf grades (now (evidence .entry)) (now (pairs .entry)))) (settingsIn rates prior) (baleOf grades (now (evidence .entry)) (now (pairs .entry)))) (now (out .exit)) r ⌝ }
+    ensures { λ r. ⌜ Written (now (out .entry)) 0 (verdictLines (verdict (codedSettings rates prior) buffers (baleOf grades (now (evidence .entry)) (now (pairs .entry)))) (codedSettings rates prior) (baleOf grades (now (evidence .entry)) (now (pairs .entry)))) (now (out .exit)) r ⌝ }
 {
     let mut numbers = [0; 24];
     let mut floats = [0.0; 48];

@@ -7,12 +7,13 @@ use lib.Ieee.{Float}
 use lib.ListN.{length}
 use Rattle.definition.specs.FactorGraph.{Bale}
 use Rattle.definition.specs.Settings.{Settings}
-use Rattle.definition.specs.Refusals.{Buffers, Verdict, accepted, refused, verdict, pairsOf, baleOf}
+use Rattle.definition.specs.Refusals.{Buffers, Verdict, accepted, refused, workNeeded, verdict, pairsOf, baleOf}
 use Rattle.graph_laws.specs.Accepted.{Passes, passes-all, sized, valid, pairs-apart}
 use Rattle.graph_laws.specs.AnswerSizes.{components-few}
+use Rattle.graph_laws.specs.CallLengths.{room}
 use Rattle.list_laws.specs.Put.{put}
 use Rattle.checks.specs.Accepted.{Checked, accepted-checked}
-use Rattle.checks.specs.Slices.{length-markers}
+use Rattle.checks.specs.Slices.{length-markers, length-pairs}
 use Rattle.factor_graph.specs.Words.{builtWords}
 use Rattle.factor_graph.specs.Build.{Buildable, accepted-buildable}
 use Rattle.components.specs.ComponentBuilt.{nodes-count}
@@ -31,10 +32,11 @@ pub record Judged (v : Verdict) (g : ℕ) (es : List Float) (ps : List ℕ) (n :
   pub is : v ≡ verdict settings lent (baleOf g es ps)
   pub words : lent .workNumbers ≡ n
 
--- a refusal's number and place, and the words as they were; or the graph and its components
+-- a refusal's number and place, the rest of the reply 0, and the words as they were; or number and place 0, and the graph and its components
 abbrev pub CutAfter : Verdict → Bale → List ℕ → List ℕ → ℕ → ℕ → ℕ → ℕ → Type 0
-CutAfter accepted b w w′ number place count end = (number ≡ 0) × Done b (nodeTotal b) (edgeTotal b) (slotTotal b) (put w 0 (builtWords b)) w′ count end
-CutAfter (refused n p) b w w′ number place count end = (number ≡ n) × (place ≡ p) × (w′ ≡ w)
+CutAfter accepted b w w′ number place count end =
+    (number ≡ 0) × (place ≡ 0) × Done b (nodeTotal b) (edgeTotal b) (slotTotal b) (put w 0 (builtWords b)) w′ count end
+CutAfter (refused n p) b w w′ number place count end = (number ≡ n) × (place ≡ p) × (count ≡ 0) × (end ≡ 0) × (w′ ≡ w)
 
 module _ (s : Settings) (f : Buffers) (g : ℕ) (es : List Float) (ps w : List ℕ) (lent : f .workNumbers ≡ length w) (h : verdict s f (baleOf g es ps) ≡ accepted) where
   abbrev b : Bale
@@ -43,14 +45,15 @@ module _ (s : Settings) (f : Buffers) (g : ℕ) (es : List Float) (ps w : List �
   abbrev all : Passes s f (baleOf g es ps)
   all = passes-all s f (baleOf g es ps) h
 
-  abbrev known : Checked f g es ps
+  abbrev known : Checked g es ps
   known = accepted-checked s f g es ps h
 
   pub cut-markers : length es / 2 ≤ 1024
   cut-markers = known .markers
 
   pub cut-room : 37 * (g + length es / 2 + length ps / 2) + 3 ≤ length w
-  cut-room = omega (arith, known .room .workNumbers, lent)
+  unfolding workNeeded baleOf
+  cut-room = omega (arith, room f b (all .buffers .0) .workNumbers, lent, length-markers es, length-pairs ps)
 
   pub grades-are : b .grades ≡ g
   unfolding baleOf

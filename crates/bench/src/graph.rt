@@ -1,7 +1,8 @@
 // What benchmark/graph compares and times: a call is checked, and if it is accepted its graph is built and cut into components.
 ghost use lib.ListN.{length};
 ghost use Rattle.definition.specs.Refusals.{baleOf, verdict};
-ghost use Rattle.checks.specs.Verdicts.{settingsOf, verdictOf};
+ghost use Rattle.definition.specs.Settings.{settingsOf};
+ghost use Rattle.checks.specs.Verdicts.{verdictOf};
 ghost use Rattle.bench.specs.Graphs.{CutAfter, Judged, lentOf};
 use checks::Buffers;
 use checks::Verdict;
@@ -38,7 +39,7 @@ fn cut_judged(v: Verdict, words: &mut [u32], grades: u32, evidence: &[f32], pair
     }
 }
 
-// On a refusal its number and place, and the words stay. Else 0, how many components there are and where their records end.
+// On a refusal its number and place, two zeros, and the words stay. Else two zeros, how many components there are and where their records end.
 // The words have the length that both work buffers have; the others are as long as any call asks.
 #[no_mangle]
 pub extern "C" fn cut_graph(

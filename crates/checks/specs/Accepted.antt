@@ -7,31 +7,20 @@ use lib.Ieee.{Float}
 use lib.ListN.{length, getD}
 use Rattle.definition.specs.Settings.{Settings}
 use Rattle.definition.specs.FactorGraph.{Pair, markerNumbers, gradesOf}
-use Rattle.definition.specs.Refusals.{Buffers, pairsOf, markersOf, baleOf, workNeeded, tooSmall, accepted, verdict}
-use Rattle.graph_laws.specs.Bools.{or-no, no-ltb}
+use Rattle.definition.specs.Refusals.{Buffers, pairsOf, markersOf, baleOf, accepted, verdict}
 use Rattle.graph_laws.specs.AloneChecks.{All-getD}
 use Rattle.graph_laws.specs.Accepted.{Passes, passes-all, sized, valid, uncrowded}
 use Rattle.graph_laws.specs.Lists.{length-count}
 use Rattle.checks.specs.Searching.{getD-range}
 use Rattle.checks.specs.Slices.{noPair, length-markers, length-pairs, getD-pairs, counts}
 
--- each lent buffer has the room
-pub record Room (f : Buffers) (g m p : ℕ) : Type 0 where
-  pub workFloats : 64 * (g + m + p) + 4096 ≤ f .workFloats
-  pub workNumbers : 64 * (g + m + p) + 4096 ≤ f .workNumbers
-  pub beliefNumbers : g ≤ f .beliefNumbers
-  pub beliefFloats : 2 * g ≤ f .beliefFloats
-  pub endingNumbers : 4 * g ≤ f .endingNumbers
-  pub endingFloats : g ≤ f .endingFloats
-
--- the counts, the pairs and the buffers of an accepted call with g grades, the evidence es and the pairs ps
-pub record Checked (f : Buffers) (g : ℕ) (es : List Float) (ps : List ℕ) : Type 0 where
+-- the counts and the pairs of an accepted call with g grades, the evidence es and the pairs ps
+pub record Checked (g : ℕ) (es : List Float) (ps : List ℕ) : Type 0 where
   pub grades : g ≤ 1024
   pub markers : length es / 2 ≤ 1024
   pub pairs : length ps / 2 ≤ 8192
   pub known : (i : ℕ) → i < length ps / 2 → (getD ps (2 * i) 0 < g) × (getD ps (2 * i + 1) 0 < length es / 2)
   pub few : (m : ℕ) → m < length es / 2 → length (gradesOf (pairsOf ps) m) ≤ 128
-  pub room : Room f g (length es / 2) (length ps / 2)
 
 module _ (s : Settings) (f : Buffers) (g : ℕ) (es : List Float) (ps : List ℕ) (h : verdict s f (baleOf g es ps) ≡ accepted) where
   abbrev all : Passes s f (baleOf g es ps)
@@ -51,26 +40,7 @@ module _ (s : Settings) (f : Buffers) (g : ℕ) (es : List Float) (ps : List ℕ
       subst (λ (n : ℕ). length (gradesOf (pairsOf ps) n) ≤ 128) (getD-range 0 (length (markersOf es)) m 0 k ∙ omega arith)
       (All-getD (λ n. length (gradesOf (pairsOf ps) n) ≤ 128) (markerNumbers (baleOf g es ps)) (uncrowded (baleOf g es ps) (all .few)) 0 m (omega (arith, length-count 0 (length (markersOf es)))))
 
-  room-for : Room f g (length es / 2) (length ps / 2)
-  unfolding tooSmall workNeeded baleOf
-  room-for =
-      let x5 = or-no _ _ (all .buffers .0) in
-      let x4 = or-no _ _ (x5 .0) in
-      let x3 = or-no _ _ (x4 .0) in
-      let x2 = or-no _ _ (x3 .0) in
-      let x1 = or-no _ _ (x2 .0) in
-      let floats : 64 * (g + length (markersOf es) + length (pairsOf ps)) + 4096 ≤ f .workFloats = no-ltb _ _ (x1 .0) in
-      let numbers : 64 * (g + length (markersOf es) + length (pairsOf ps)) + 4096 ≤ f .workNumbers = no-ltb _ _ (x1 .1) in
-      record {
-        workFloats = omega (arith, length-markers es, length-pairs ps);
-        workNumbers = omega (arith, length-markers es, length-pairs ps);
-        beliefNumbers = no-ltb _ _ (x2 .1);
-        beliefFloats = no-ltb _ _ (x3 .1);
-        endingNumbers = no-ltb _ _ (x4 .1);
-        endingFloats = no-ltb _ _ (x5 .1);
-      }
-
-  pub accepted-checked : Checked f g es ps
+  pub accepted-checked : Checked g es ps
   accepted-checked =
       let n = counts g es ps (sized (baleOf g es ps) (all .sizes .0)) in
-      record { grades = n .0; markers = n .1; pairs = n .2; known = known-at; few = few-at; room = room-for }
+      record { grades = n .0; markers = n .1; pairs = n .2; known = known-at; few = few-at }

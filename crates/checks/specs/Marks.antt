@@ -10,8 +10,9 @@ use mathlib.Core.List.{List, [], _∷_}
 use lib.Dec.{eqb}
 use lib.ListN.{length, getD, set}
 use lib.Seq.{getD-set-same, getD-set-other}
-use Rattle.definition.specs.FactorGraph.{Pair}
-use Rattle.definition.specs.Refusals.{pairsOf, equalPairs, isAmong, repeatedPairs}
+use Rattle.definition.specs.Lists.{mem}
+use Rattle.definition.specs.FactorGraph.{Pair, eqPair}
+use Rattle.definition.specs.Refusals.{pairsOf, repeatedPairs}
 use Rattle.graph_laws.specs.Lists.{All}
 use Rattle.graph_laws.specs.AloneChecks.{eqPair-sound, All-getD}
 use Rattle.checks.specs.Slices.{pairAt, noPair, length-pairs, getD-pairs}
@@ -104,27 +105,25 @@ mark-other w k j l h n = go (eqb (j / 32) (k / 32)) refl
 
 -- the marks are those of the given pairs
 abbrev pub Marked : List ℕ → List Pair → Type 0
-Marked w before = (q : Pair) → q .grade < 1024 → q .marker < 1024 → eqb (markAt w (cellOf q)) 1 ≡ isAmong q before
+Marked w before = (q : Pair) → q .grade < 1024 → q .marker < 1024 → eqb (markAt w (cellOf q)) 1 ≡ mem eqPair q before
 
 pub marked-none : (w : List ℕ) → ((i : ℕ) → getD w i 0 ≡ 0) → Marked w []
-unfolding isAmong
 marked-none w h q a b = ap (λ (n : ℕ). eqb n 1) (ap (λ (x : ℕ). digit x (cellOf q % 32)) (h (cellOf q / 32)) ∙ digit-zero (cellOf q % 32))
 
 module _ (w : List ℕ) (before : List Pair) (p : Pair) (g : p .grade < 1024) (m : p .marker < 1024) (s : length w ≡ 32768) (c : markAt w (cellOf p) ≡ 0) where
   pub marked-more : Marked w before → Marked (withMark w (cellOf p)) (p ∷ before)
-  unfolding isAmong equalPairs
-  marked-more h q a b = go (equalPairs q p) refl
+  marked-more h q a b = go (eqPair q p) refl
     where
       l : cellOf p / 32 < length w
       l = omega arith
 
-      go : (t : Bool) → equalPairs q p ≡ t → eqb (markAt (withMark w (cellOf p)) (cellOf q)) 1 ≡ (t || isAmong q before)
+      go : (t : Bool) → eqPair q p ≡ t → eqb (markAt (withMark w (cellOf p)) (cellOf q)) 1 ≡ (t || mem eqPair q before)
       go true e =
           ap (λ (n : ℕ). eqb n 1) (ap (λ (k : Pair). markAt (withMark w (cellOf p)) (cellOf k)) (eqPair-sound q p e) ∙ mark-same w (cellOf p) l c)
       go false e =
           ap (λ (n : ℕ). eqb n 1) (mark-other w (cellOf p) (cellOf q) l c (λ r. apart r e)) ∙ h q a b
         where
-          apart : cellOf q ≡ cellOf p → equalPairs q p ≡ false → ⊥
+          apart : cellOf q ≡ cellOf p → eqPair q p ≡ false → ⊥
           apart r f =
               let x : q .grade ≡ p .grade = omega arith in
               let y : q .marker ≡ p .marker = omega arith in
@@ -149,7 +148,8 @@ unfolding repeatedPairs
 length-repeated before [] = refl
 length-repeated before (p ∷ ps) = ap suc (length-repeated (p ∷ before) ps)
 
-pub getD-repeated : (before ps : List Pair) (i : ℕ) (d : Pair) → i < length ps → getD (repeatedPairs before ps) i false ≡ isAmong (getD ps i d) (seen before ps i)
+pub getD-repeated : (before ps : List Pair) (i : ℕ) (d : Pair) → i < length ps
+    → getD (repeatedPairs before ps) i false ≡ mem eqPair (getD ps i d) (seen before ps i)
 unfolding repeatedPairs seen
 getD-repeated before [] i d l = absurd (let z : ⊥ = omega arith in z)
 getD-repeated before (p ∷ ps) zero d l = refl
@@ -178,7 +178,7 @@ module _ (w ps : List ℕ) (i k : ℕ) (l : i < length ps / 2) (h : InGrid (pair
   repeated-test =
       ap (λ (n : ℕ). eqb (markAt w n) 1) e
       ∙ M (pairAt ps i) (in-grid ps i l h .0) (in-grid ps i l h .1)
-      ∙ ap (λ (q : Pair). isAmong q (passed ps i)) (sym (getD-pairs ps i noPair l))
+      ∙ ap (λ (q : Pair). mem eqPair q (passed ps i)) (sym (getD-pairs ps i noPair l))
       ∙ sym (getD-repeated [] (pairsOf ps) i noPair (omega (arith, length-pairs ps)))
 
   pub marked-next : length w ≡ 32768 → markAt w k ≡ 0 → Marked (withMark w k) (passed ps (i + 1))

@@ -1,11 +1,8 @@
 -- What the functions' arguments and answers are in the definition's terms.
 use Prim.Native.Nat.{ℕ}
 use mathlib.Core.Path.{_≡_}
-use mathlib.Core.Bool.{Bool}
 use mathlib.Core.Option.{Option, none, some}
 use mathlib.Core.List.{[], map}
-use lib.Ieee.{Float}
-use Rattle.definition.specs.Settings.{Settings}
 use Rattle.definition.specs.FactorGraph.{Bale, markerNumbers}
 use Rattle.definition.specs.Refusals as definition
 use Rattle.definition.specs.Refusals.{badEvidence, unknownPair, lowestPlace, repeatedPairs, tooManyGrades, accepted, refused, orRefused}
@@ -33,10 +30,6 @@ buffersOf f =
       endingNumbers = f .«ending_numbers»;
       endingFloats = f .«ending_floats»;
     }
-
-abbrev pub settingsOf : Float → Float → Float → Bool → Float → ℕ → Settings
-settingsOf alpha′ beta′ prior′ regularised′ tolerance′ loopLimit′ =
-    record { alpha = alpha′; beta = beta′; prior = prior′; regularised = regularised′; tolerance = tolerance′; loopLimit = loopLimit′ }
 
 -- what the checks 5 to 8 say, which are those of the graph
 unfoldable pub graphVerdict : Bale → definition.Verdict

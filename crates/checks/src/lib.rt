@@ -7,8 +7,9 @@ ghost use lib.Dec.{eqb, ltb};
 ghost use lib.ListN.{length, getD, replicate};
 ghost use Rattle.definition.specs.FactorGraph.{markerNumbers, gradesOf};
 ghost use Rattle.definition.specs.Refusals.{markersOf, pairsOf, baleOf, outside, leastProbability, greatestProbability, tooMany, tooSmall, badTolerance, badEvidence, unknownPair, lowestPlace, repeatedPairs, tooManyGrades, verdict};
+ghost use Rattle.definition.specs.Settings.{settingsOf};
 ghost use Rattle.graph_laws.specs.Accepted.{Sized};
-ghost use Rattle.checks.specs.Verdicts.{placeOf, verdictOf, buffersOf, settingsOf, graphVerdict};
+ghost use Rattle.checks.specs.Verdicts.{placeOf, verdictOf, buffersOf, graphVerdict};
 ghost use Rattle.checks.specs.Marks.{digit, InGrid, cellOf};
 ghost use Rattle.checks.specs.Slices.{pairAt};
 

@@ -1,12 +1,16 @@
 -- Of what the claims speak, and the claims: the reader's first file.
 pub mod Parts
 pub mod Claims
+-- The same of a call, by what it leaves in its buffers.
+pub mod CallByParts
 -- Every pattern once; how far a tree is from the exact sum.
 pub mod Patterns
 pub mod ExactSums
 -- The first check that fails, of which a table of refusals speaks; document 01's table.
 pub mod First
 pub mod Refused
+-- The program's, with number 9.
+pub mod FileRefused
 -- Two readers over one belt.
 pub mod Matching
 -- All read patterns of a small graph.

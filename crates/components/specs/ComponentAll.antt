@@ -9,23 +9,23 @@ use lib.Dec.{eqb}
 use lib.ListN.{length, getD}
 use Rattle.components.specs.ComponentMemory.{Memory, memory, outAt}
 use Rattle.components.specs.ComponentWalk.{Walk, walkOf, visitNode, Sound, walked, Walking, turn, turn-walking, turn-graph}
-use Rattle.components.specs.ComponentRecorded.{Recorded, recordedOf, recorded, filled, totalOf}
+use Rattle.components.specs.ComponentRecorded.{AfterRecord, recordedOf, recorded, filled, totalOf}
 use Rattle.components.specs.ComponentEdges.{see-keeps}
 use Rattle.components.specs.ComponentRecord.{seenOf}
 use Rattle.components.specs.ComponentStep.{walkedFrom, componentAt, nextFree, Stepping, walked-is, first-walking, first-kept, component-is}
 
 -- the words, how many components there are so far, and where the last record ends
-pub record All : Type 0 where
+pub record AllSoFar : Type 0 where
   pub memory : Memory
   pub count : ℕ
   pub end : ℕ
 
-abbrev pub allOf : Memory → ℕ → ℕ → All
+abbrev pub allOf : Memory → ℕ → ℕ → AllSoFar
 allOf m c k = record { memory = m; count = c; end = k }
 
 module _ (n s : ℕ) where
   -- from node i on, for k nodes: each one without a number begins a component
-  unfoldable pub allFrom : ℕ → ℕ → ℕ → ℕ → Memory → All
+  unfoldable pub allFrom : ℕ → ℕ → ℕ → ℕ → Memory → AllSoFar
   allFrom zero i c at m = allOf m c at
   allFrom (suc k) i c at m =
       cond (eqb (getD (m .nodeNumbers) i 0) 0) (allFrom k (i + 1) (c + 1) (componentAt n s at i m .end) (componentAt n s at i m .memory)) (allFrom k (i + 1) c at m)
@@ -103,7 +103,7 @@ recorded-graph n s at c m = see-keeps n s (at + 3 + 3 * c) (at + 3 + 3 * c + tot
 
 pub component-graph : (n e s at v : ℕ) (w : List ℕ) → Stepping n e s at v w → componentAt n s at v (memory n e s w) .memory .graph ≡ memory n e s w .graph
 component-graph n e s at v w pre =
-    ap (λ (r : Recorded). r .memory .graph) (component-is n e s at v w pre)
+    ap (λ (r : AfterRecord). r .memory .graph) (component-is n e s at v w pre)
     ∙ recorded-graph n s at (walkedFrom n s at v (memory n e s w) .count) (walkedFrom n s at v (memory n e s w) .memory)
     ∙ ap (λ (x : Walk). x .memory .graph) (walked-is n e s at v w pre)
     ∙ walked-graph n e s at n (visitNode at v (walkOf (memory n e s w) 0 0)) (first-walking n e s at v w pre)
@@ -119,7 +119,7 @@ pub record Finding (n e s : ℕ) (w : List ℕ) : Type 0 where
   pub room : outAt n e s + allFrom n s n 0 0 0 (memory n e s w) .end ≤ length w
 
 module _ (n e s : ℕ) (w₀ : List ℕ) (pre : Finding n e s w₀) where
-  abbrev whole : All
+  abbrev whole : AllSoFar
   whole = allFrom n s n 0 0 0 (memory n e s w₀)
 
   pub find-first : allFrom n s (n - nextFree (memory n e s w₀ .nodeNumbers) 0 (n - 0)) (nextFree (memory n e s w₀ .nodeNumbers) 0 (n - 0)) 0 0 (memory n e s w₀) ≡ whole
@@ -145,14 +145,14 @@ module _ (n e s : ℕ) (w₀ : List ℕ) (pre : Finding n e s w₀) where
         }
 
     pub find-graph : (w′ : List ℕ) (r : ℕ) → recordedOf (memory n e s w′) r ≡ componentAt n s at v (memory n e s w) → memory n e s w′ .graph ≡ memory n e s w₀ .graph
-    find-graph w′ r q = ap (λ (x : Recorded). x .memory .graph) q ∙ component-graph n e s at v w find-asks ∙ graph
+    find-graph w′ r q = ap (λ (x : AfterRecord). x .memory .graph) q ∙ component-graph n e s at v w find-asks ∙ graph
 
     pub find-next : (w′ : List ℕ) (r u : ℕ) → recordedOf (memory n e s w′) r ≡ componentAt n s at v (memory n e s w) → u ≡ nextFree (memory n e s w′ .nodeNumbers) (v + 1) (n - (v + 1))
         → allFrom n s (n - u) u (c + 1) r (memory n e s w′) ≡ whole
     find-next w′ r u q p =
         ap (λ (j : ℕ). allFrom n s (n - j) j (c + 1) r (memory n e s w′)) p
         ∙ sym (all-passed n s (n - (v + 1)) (v + 1) (c + 1) r (memory n e s w′) (omega arith))
-        ∙ ap (λ (x : Recorded). allFrom n s (n - (v + 1)) (v + 1) (c + 1) (x .end) (x .memory)) q ∙ step
+        ∙ ap (λ (x : AfterRecord). allFrom n s (n - (v + 1)) (v + 1) (c + 1) (x .end) (x .memory)) q ∙ step
 
 pub find-end : (n s v c at : ℕ) (m : Memory) → n ≤ v → allFrom n s (n - v) v c at m ≡ allOf m c at
 unfolding allFrom

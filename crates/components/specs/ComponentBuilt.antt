@@ -8,14 +8,13 @@ use native.Mathlib.Omega.{arith}
 use lib.Dec.{eqb}
 use lib.ListN.{length, getD, length-map}
 use Rattle.definition.specs.Lists.{range, filter, mem, indexOf}
-use Rattle.definition.specs.FactorGraph.{Bale, Node, gradeNode, Edge, eqNode, eqEdge, builtNodes, builtEdges, kindOf}
+use Rattle.definition.specs.FactorGraph.{Bale, Node, gradeNode, Edge, eqNode, eqEdge, builtNodes, builtEdges, kindOf, eqPair}
 use Rattle.definition.specs.Components.{SubgraphNode, Subgraph, isIncident, incidentEdges, subgraphNode, subgraphEdge}
 use Rattle.graph_laws.specs.Lists.{All, upto, All-mono, All-filter, All-at, All-in, mem-self, filter-map, filter-cong}
 use Rattle.graph_laws.specs.Walk.{index-map}
 use Rattle.graph_laws.specs.Ranks.{NoDup, index-lt, index-inj, getD-map-index, map-index, upto-below}
 use Rattle.graph_laws.specs.Isomorphism.{onEdge, Ends, isIncident-map}
 use Rattle.graph_laws.specs.Components.{Holds}
-use Rattle.graph_laws.specs.AloneChecks.{eqPair}
 use Rattle.graph_laws.specs.Names.{eqNode-sound, eqNode-same, Valid, built-inside}
 use Rattle.graph_laws.specs.Distinct.{nodes-nodup, edges-nodup}
 use Rattle.graph_laws.specs.Positions.{eqEdge-sound, eqEdge-same}

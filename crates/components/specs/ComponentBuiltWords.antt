@@ -7,13 +7,12 @@ use lib.Dec.{eqb}
 use lib.ListN.{length, getD, take, length-map}
 use lib.Seq.{take-all}
 use Rattle.definition.specs.Lists.{range, concat, indexOf}
-use Rattle.definition.specs.FactorGraph.{Bale, Node, gradeNode, Edge, eqNode, builtNodes, builtEdges, kindOf}
+use Rattle.definition.specs.FactorGraph.{Bale, Node, gradeNode, Edge, eqNode, builtNodes, builtEdges, kindOf, eqPair}
 use Rattle.definition.specs.Components.{SubgraphNode, SubgraphEdge, otherEnd, neighbours, subgraphNode, subgraphEdge}
 use Rattle.graph_laws.specs.Lists.{All, All-mono, map-cong}
 use Rattle.graph_laws.specs.Ranks.{NoDup}
-use Rattle.graph_laws.specs.AloneChecks.{eqPair}
 use Rattle.graph_laws.specs.Names.{Valid}
-use Rattle.graph_laws.specs.Numbers.{edgeByNumber, incidentNumbers, neighbours-no, kindByNumber}
+use Rattle.graph_laws.specs.Numbers.{edgeByNumber, incidentNumbers, neighbours-by-number, kindByNumber}
 use Rattle.graph_laws.specs.DirectionNumbers.{getD-mapped}
 use Rattle.factor_graph.specs.Words.{kindCode, label, numberedGraph, builtWords, graphWords, edgeWords}
 use Rattle.components.specs.ComponentWalk.{firstOf, slotOf, endOf, otherEndOf, Sound}
@@ -154,7 +153,7 @@ module _ (b : Bale) (valid : Valid b) (once : NoDup eqPair (b .pairs)) where
       ∙ ap (map (otherEndOf n s (builtWords b) v)) (built-slots v h)
       ∙ map-cong (otherEndOf n s (builtWords b) v) (λ k. otherEnd eqb v (edgeOf k)) (inc v)
       (All-mono (λ k. k < e) (λ k. otherEndOf n s (builtWords b) v k ≡ otherEnd eqb v (edgeOf k)) (λ k q. rw (built-node1 k q, built-node2 k q)) (inc v) (inc-below v))
-      ∙ sym (neighbours-no (numberedEdges b valid once) v)
+      ∙ sym (neighbours-by-number (numberedEdges b valid once) v)
 
   -- the three counts, as they stand in the words
   pub built-counts : (getD (builtWords b) 0 0 ≡ nodeTotal b) × (getD (builtWords b) 1 0 ≡ edgeTotal b) × (getD (builtWords b) (2 + 3 * nodeTotal b) 0 ≡ slotTotal b)

@@ -8,7 +8,7 @@ use lib.Dec.{eqb}
 use lib.ListN.{length, getD, length-map}
 use lib.Seq.{sets}
 use Rattle.definition.specs.Lists.{range, concat, mem, indexOf}
-use Rattle.definition.specs.FactorGraph.{Bale, gradeNode, Edge, builtNodes, Kind}
+use Rattle.definition.specs.FactorGraph.{Bale, gradeNode, Edge, builtNodes, Kind, eqPair}
 use Rattle.definition.specs.Components.{SubgraphNode, SubgraphEdge, Search, walk, walkStart, neighbours, addIfNew, addAllNew}
 use Rattle.graph_laws.specs.Bools.{eqb-sound, eqb-same, or-no}
 use Rattle.graph_laws.specs.Lists.{All, All-mono, All-append, All-at, All-in, All-both, map-cong, All-map-from}
@@ -17,10 +17,9 @@ use Rattle.graph_laws.specs.Reach.{mem-append, walk-once}
 use Rattle.graph_laws.specs.Ranks.{NoDup, All-concat-into, map-concat}
 use Rattle.graph_laws.specs.Partition.{walk-nodup}
 use Rattle.graph_laws.specs.Components.{Both, ends-of-both}
-use Rattle.graph_laws.specs.AloneChecks.{eqPair}
 use Rattle.graph_laws.specs.Names.{Valid}
 use Rattle.graph_laws.specs.Isomorphism.{subgraphBy}
-use Rattle.graph_laws.specs.Numbers.{edgeByNumber, incidentNumbers, incidentEdges-no, neighbours-no, subgraphByNumber, kindByNumber}
+use Rattle.graph_laws.specs.Numbers.{edgeByNumber, incidentNumbers, incidentEdges-by-number, neighbours-by-number, subgraphByNumber, kindByNumber}
 use Rattle.list_laws.specs.Put.{put}
 use Rattle.list_laws.specs.PutMore.{put-sets}
 use Rattle.factor_graph.specs.Words.{kindCode, label, builtWords, graphWords, edgeWords, firstSlots}
@@ -91,7 +90,7 @@ module _ (b : Bale) (valid : Valid b) (once : NoDup eqPair (b .pairs)) where
 
   neighbours-below : (v : ℕ) → v < n → All (λ u. u < n) (nb v)
   neighbours-below v h =
-      subst (λ (l : List ℕ). All (λ u. u < n) l) (sym (neighbours-no es v)) (into (inc v) (inc-below b valid once v))
+      subst (λ (l : List ℕ). All (λ u. u < n) l) (sym (neighbours-by-number es v)) (into (inc v) (inc-below b valid once v))
     where
       one : (k : ℕ) (c : Bool) → k < e → cond c (edgeOf k .node2) (edgeOf k .node1) < n
       one k true q = omega (arith, nodes-count b valid once, ends-below b valid once k (omega (arith, edges-count b valid once)))
@@ -150,7 +149,7 @@ module _ (b : Bale) (valid : Valid b) (once : NoDup eqPair (b .pairs)) where
       inc-known u h =
           All-both (λ k. k < e) (λ k. (mem eqb (edgeOf k .node1) p ≡ true) × (mem eqb (edgeOf k .node2) p ≡ true)) (inc u) (inc-below b valid once u)
           (All-map-from (λ (f : Edge ℕ). (mem eqb (f .node1) p ≡ true) × (mem eqb (f .node2) p ≡ true)) edgeOf (inc u)
-          (subst (λ (l : List (Edge ℕ)). All (λ (f : Edge ℕ). (mem eqb (f .node1) p ≡ true) × (mem eqb (f .node2) p ≡ true)) l) (incidentEdges-no es u) (ends-of-both eqb eqb-sound eqb-same p es both u h)))
+          (subst (λ (l : List (Edge ℕ)). All (λ (f : Edge ℕ). (mem eqb (f .node1) p ≡ true) × (mem eqb (f .node2) p ≡ true)) l) (incidentEdges-by-number es u) (ends-of-both eqb eqb-sound eqb-same p es both u h)))
 
       ks-known : All Known ks
       ks-known = All-concat-into Known inc p (All-in eqb eqb-same (λ u. All Known (inc u)) p inc-known)

@@ -6,11 +6,10 @@ use native.Mathlib.Nat.{zero-add}
 use native.Mathlib.Omega.{arith}
 use lib.ListN.{length, getD, take, replicate, length-replicate}
 use lib.Seq.{getD-take, ext-getD, length-take-le}
-use Rattle.definition.specs.FactorGraph.{Bale, noEvidence}
+use Rattle.definition.specs.FactorGraph.{Bale, noEvidence, eqPair}
 use Rattle.definition.specs.Settings.{Settings}
 use Rattle.definition.specs.Refusals.{Buffers, pairsOf, workNeeded}
 use Rattle.graph_laws.specs.Ranks.{NoDup}
-use Rattle.graph_laws.specs.AloneChecks.{eqPair}
 use Rattle.graph_laws.specs.Names.{Valid}
 use Rattle.graph_laws.specs.Accepted.{Passes}
 use Rattle.list_laws.specs.Put.{put, put-in, length-put}

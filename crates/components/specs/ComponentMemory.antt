@@ -6,10 +6,6 @@ use native.Mathlib.Omega.{arith}
 use lib.ListN.{length, getD, take, drop, set, length-drop}
 use lib.Seq.{getD-take, getD-drop, length-take-le, take-set-le, take-set-lt, drop-set-lt, drop-set-add}
 
--- how many words the record of a graph takes, with so many nodes, edges and slots
-abbrev pub graphSize : ℕ → ℕ → ℕ → ℕ
-graphSize n e s = 3 + 3 * n + s + 5 * e
-
 -- how many words come before the components' records: the graph's record, a number for each node and each edge, and the stack
 abbrev pub outAt : ℕ → ℕ → ℕ → ℕ
 outAt n e s = 3 + 3 * n + s + 5 * e + n + e + n

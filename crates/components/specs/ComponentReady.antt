@@ -1,8 +1,7 @@
 -- The lent words before and after all components are found.
 use mathlib.Core.Path.{_≡_, refl, sym, ap, _∙_, subst}
-use mathlib.Core.Bool.{true}
 use mathlib.Core.Logic.{by-cases}
-use mathlib.Core.List.{List, [], _∷_}
+use mathlib.Core.List.{List, []}
 use Prim.Native.Nat.{ℕ, _+_, _*_, _-_, _≤_, _<_}
 use native.Mathlib.Decide.{decLt}
 use native.Mathlib.Nat.{zero-add}
@@ -10,22 +9,19 @@ use native.Mathlib.Omega.{arith}
 use lib.Dec.{eqb}
 use lib.ListN.{length, getD, take, List·getD-eq-default}
 use lib.Seq.{getD-take, ext-getD}
-use Rattle.definition.specs.FactorGraph.{Bale, Node}
+use Rattle.definition.specs.FactorGraph.{Bale, eqPair}
 use Rattle.definition.specs.Components.{componentsOf}
 use Rattle.graph_laws.specs.Ranks.{NoDup}
-use Rattle.graph_laws.specs.AloneChecks.{eqPair}
 use Rattle.graph_laws.specs.Names.{Valid}
 use Rattle.list_laws.specs.Write.{write, length-write, write-below, write-above, write-in}
 use Rattle.list_laws.specs.Put.{put, put-is, put-in, put-above}
-use Rattle.factor_graph.specs.Words.{builtWords, componentWords, componentsWords}
+use Rattle.factor_graph.specs.Words.{builtWords, componentsWords}
 use Rattle.components.specs.ComponentMemory.{memory, outAt, read-graph, read-nodeNumber, read-edgeNumber, read-stack, read-out, length-graph, length-nodeNumbers, length-edgeNumbers, length-stack, length-out}
 use Rattle.components.specs.ComponentWalk.{Sound}
-use Rattle.components.specs.ComponentAll.{allOf, allFrom, Finding}
+use Rattle.components.specs.ComponentAll.{AllSoFar, allOf, allFrom, Finding}
 use Rattle.components.specs.ComponentBuiltWords.{nodeTotal, edgeTotal, slotTotal, built-length, built-sound}
 use Rattle.components.specs.ComponentByNumber.{Between}
-use Rattle.components.specs.ComponentTheorems.{Found, all-found, Remaining, next-is}
-use Rattle.components.specs.ComponentRecorded.{Recorded}
-use Rattle.components.specs.ComponentStep.{Stepping}
+use Rattle.components.specs.ComponentTheorems.{Found, all-found}
 
 -- the scratch set to 0
 abbrev pub cleared : ℕ → ℕ → ℕ → List ℕ → List ℕ
@@ -123,10 +119,10 @@ module _ (b : Bale) (n e s : ℕ) (w : List ℕ) (pre : Ready b n e s w) where
     CW = componentsWords b
 
     graph₂ : memory n e s w₂ .graph ≡ memory n e s w₁ .graph
-    graph₂ = ap (λ (x : Rattle.components.specs.ComponentAll.All). x .memory .graph) q ∙ found .graph
+    graph₂ = ap (λ (x : AllSoFar). x .memory .graph) q ∙ found .graph
 
     out₂ : memory n e s w₂ .out ≡ put (memory n e s w₁ .out) 0 CW
-    out₂ = ap (λ (x : Rattle.components.specs.ComponentAll.All). x .memory .out) q ∙ found .out
+    out₂ = ap (λ (x : AllSoFar). x .memory .out) q ∙ found .out
 
     out-at : (j : ℕ) → getD w₂ (outAt n e s + j) 0 ≡ getD (put (memory n e s w₁ .out) 0 CW) j 0
     out-at j = read-out n e s w₂ (outAt n e s + j) j 0 refl ∙ ap (λ (l : List ℕ). getD l j 0) out₂
@@ -154,27 +150,6 @@ module _ (b : Bale) (n e s : ℕ) (w : List ℕ) (pre : Ready b n e s w) where
     all-done w₄ end r y =
         record {
           words = r ∙ done-words;
-          count = ap (λ (x : Rattle.components.specs.ComponentAll.All). x .count) q ∙ found .count;
-          end = y ∙ ap (λ (z : ℕ). outAt n e s + z) (ap (λ (x : Rattle.components.specs.ComponentAll.All). x .end) q ∙ found .end);
+          count = ap (λ (x : AllSoFar). x .count) q ∙ found .count;
+          end = y ∙ ap (λ (z : ℕ). outAt n e s + z) (ap (λ (x : AllSoFar). x .end) q ∙ found .end);
         }
-
--- ---- one component at a time
-
--- what the step for the next component p asks, which begins at node i, of words that hold what remains
-pub next-asks : (b : Bale) (valid : Valid b) (once : NoDup eqPair (b .pairs)) (w : List ℕ) (p : List Node) (ps : List (List Node)) (at i : ℕ)
-    → outAt (nodeTotal b) (edgeTotal b) (slotTotal b) ≤ length w → nodeTotal b < 4294967296 → i < nodeTotal b
-    → Remaining b valid once (p ∷ ps) i (memory (nodeTotal b) (edgeTotal b) (slotTotal b) w) → eqb (getD (memory (nodeTotal b) (edgeTotal b) (slotTotal b) w .nodeNumbers) i 0) 0 ≡ true
-    → at + length (componentWords b p) < 4294967296 → outAt (nodeTotal b) (edgeTotal b) (slotTotal b) + (at + length (componentWords b p)) ≤ length w
-    → Stepping (nodeTotal b) (edgeTotal b) (slotTotal b) at i w
-next-asks b valid once w p ps at i fits nodes below r q small room =
-    let m = memory (nodeTotal b) (edgeTotal b) (slotTotal b) w in
-    let x = next-is b valid once p ps at i m below q (omega (arith, room, length-out (nodeTotal b) (edgeTotal b) (slotTotal b) w fits)) r in
-    let k = ap (λ (y : Recorded). y .end) (x .is) in
-    record {
-      fits = fits;
-      sound = rw (r .held .graph) (built-sound b valid once);
-      node = below;
-      nodes = nodes;
-      small = omega (arith, k, small);
-      room = omega (arith, k, room);
-    }

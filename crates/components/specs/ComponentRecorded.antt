@@ -11,17 +11,17 @@ use Rattle.list_laws.specs.Write.{write, write-ext, write-below, write-in, leng
 use Rattle.components.specs.ComponentMemory.{Memory, memory, outAt, withOut, store-out, read-out, read-graph, length-out}
 use Rattle.components.specs.ComponentWalk.{firstOf, slotOf, Sound}
 use Rattle.components.specs.ComponentRecord.{memory-write, lookedUp, nodeAt, degreeAt, slotsOf, lists, listed, Listing, slots-within, lists-length, lists-nodes, Seen, seenOf, numberEdge, seeSlots}
-use Rattle.components.specs.ComponentEdges.{number-keeps, see-keeps, Seeing}
+use Rattle.components.specs.ComponentEdges.{number-keeps, Seeing}
 
 -- what stands in a table of the graph, at the numbers of c nodes
 abbrev pub tableOut : ℕ → ℕ → ℕ → ℕ → Memory → Memory
 tableOut table from to c m = withOut m (write (m .out) to c (λ k. getD (m .graph) (table + getD (m .out) (from + k) 0) 0))
 
-pub record Recorded : Type 0 where
+pub record AfterRecord : Type 0 where
   pub memory : Memory
   pub end : ℕ
 
-abbrev pub recordedOf : Memory → ℕ → Recorded
+abbrev pub recordedOf : Memory → ℕ → AfterRecord
 recordedOf m k = record { memory = m; end = k }
 
 -- labels; first slots and slots; edges; kinds, in the place of the list of nodes met; the two counts
@@ -41,7 +41,7 @@ module _ (n s at c : ℕ) (m : Memory) where
   abbrev pub kinded : Memory
   kinded = tableOut 2 (at + 2) (at + 2) c (edged .memory)
 
-  unfoldable pub recorded : Recorded
+  unfoldable pub recorded : AfterRecord
   recorded = recordedOf (withOut kinded (set (set (kinded .out) at c) (at + 1) (edged .count))) (at + 3 + 3 * c + totalOf + 5 * edged .count)
 
 -- a look-up on the words
@@ -95,10 +95,6 @@ module _ (n e s at c : ℕ) (g o : List ℕ) (sound : Sound n e s g) (nodes : (i
 pub listed-nodes : (n s at c : ℕ) (g o : List ℕ) (k : ℕ) → k < at + 2 + 2 * c → getD (listed n s at c g o) k 0 ≡ getD o k 0
 unfolding listed
 listed-nodes n s at c g o k h = getD-set-other (lists n s at c g o c) (at + 2 + 3 * c) k (slotsOf n s at c g o c) 0 (λ z. omega arith) ∙ lists-nodes n s at c g o c k h
-
-pub listed-length : (n s at c : ℕ) (g o : List ℕ) → length (listed n s at c g o) ≡ length o
-unfolding listed
-listed-length n s at c g o = length-set (lists n s at c g o c) (at + 2 + 3 * c) (slotsOf n s at c g o c) ∙ lists-length n s at c g o c
 
 -- what stands before the slots stays
 module _ (n s from to : ℕ) (order : from ≤ to) (x : Seen) where
@@ -188,9 +184,6 @@ module _ (n e s at c : ℕ) (w : List ℕ) (pre : Recording n e s at c w) where
       ∙ ap (λ (z : ℕ). seeSlots n s (at + 3 + 3 * c) (at + 3 + 3 * c + z) z (seenOf (filled n s at c m) 0)) h
 
   -- the kinds
-  edged-graph : edged n s at c m .memory .graph ≡ m .graph
-  edged-graph = see-keeps n s (at + 3 + 3 * c) (at + 3 + 3 * c + totalOf n s at c m) (seenOf (filled n s at c m) 0) (totalOf n s at c m) .graph
-
   edged-node : (i : ℕ) → i < c → getD (edged n s at c m .memory .out) (at + 2 + i) 0 ≡ getD (m .out) (at + 2 + i) 0
   edged-node i h =
       see-before n s (at + 3 + 3 * c) (at + 3 + 3 * c + totalOf n s at c m) (omega arith) (seenOf (filled n s at c m) 0) (totalOf n s at c m) (at + 2 + i) (omega arith)

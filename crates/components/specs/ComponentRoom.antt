@@ -6,7 +6,7 @@ use Prim.Native.Nat.{ℕ, _+_, _*_, _≤_, _<_}
 use native.Mathlib.Omega.{arith}
 use lib.ListN.{length, getD, length-map, length-append}
 use Rattle.definition.specs.Lists.{filter, concat, mem, indexOf}
-use Rattle.definition.specs.FactorGraph.{Bale, Node, eqNode, Edge, eqEdge, builtNodes, builtEdges, builtGraph, markerNumbers, gradesOf, markerEdges, Kind, kindOf}
+use Rattle.definition.specs.FactorGraph.{Bale, Node, eqNode, Edge, eqEdge, builtNodes, builtEdges, builtGraph, markerNumbers, gradesOf, markerEdges, Kind, kindOf, eqPair}
 use Rattle.definition.specs.Settings.{Settings}
 use Rattle.definition.specs.Refusals.{Buffers}
 use Rattle.definition.specs.Components.{SubgraphNode, incidentEdges, componentEdges, subgraphNode, subgraphEdge, subgraph, subgraphOf, componentsOf}
@@ -19,7 +19,6 @@ use Rattle.graph_laws.specs.Names.{eqNode-sound, eqNode-same, Valid, built-insi
 use Rattle.graph_laws.specs.Locality.{Part, of-nodes, all-components}
 use Rattle.graph_laws.specs.Distinct.{nodes-nodup}
 use Rattle.graph_laws.specs.Incident.{toGrade, ofGrade, markerEdges-all}
-use Rattle.graph_laws.specs.AloneChecks.{eqPair}
 use Rattle.graph_laws.specs.Accepted.{Passes, sized, valid, pairs-apart}
 use Rattle.graph_laws.specs.Subsets.{no-longer}
 use Rattle.graph_laws.specs.Places.{twice}

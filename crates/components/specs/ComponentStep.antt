@@ -13,13 +13,13 @@ use lib.Seq.{getD-set-same, getD-set-other, set-out}
 use Rattle.graph_laws.specs.Bools.{eqb-sound, eqb-same, not-true}
 use Rattle.components.specs.ComponentMemory.{Memory, memory, outAt, length-nodeNumbers, length-stack}
 use Rattle.components.specs.ComponentWalk.{Walk, walkOf, meet, visitNode, visitSlots, visitNeighbours, firstOf, slotOf, otherEndOf, Sound, zeros, Kept, visit-kept, visit-below, Meeting, Walking, topOf, pop, turn, walked, walked-more, turn-walking, other-below, top-node}
-use Rattle.components.specs.ComponentRecorded.{Recorded, recorded, Recording}
+use Rattle.components.specs.ComponentRecorded.{AfterRecord, recorded, Recording}
 
 -- the walk from v, and the record of what it met
 unfoldable pub walkedFrom : ℕ → ℕ → ℕ → ℕ → Memory → Walk
 walkedFrom n s at v m = walked n s at n (visitNode at v (walkOf m 0 0))
 
-unfoldable pub componentAt : ℕ → ℕ → ℕ → ℕ → Memory → Recorded
+unfoldable pub componentAt : ℕ → ℕ → ℕ → ℕ → Memory → AfterRecord
 componentAt n s at v m = recorded n s at (walkedFrom n s at v m .count) (walkedFrom n s at v m .memory)
 
 pub zeros-le : (l : List ℕ) → zeros l ≤ length l
@@ -159,7 +159,7 @@ module _ (n e s at v : ℕ) (w : List ℕ) (pre : Stepping n e s at v w) where
     pub record-asks : Recording n e s at r w₂
     record-asks =
         let o = walked-order n e s at n (visitNode at v x₀) first-walking (visit-order n e s at v x₀ (pre .node) (λ i h. absurd (let z : ⊥ = omega arith in z))) in
-        let e₁ = ap (λ (x : Recorded). x .end) record-is in
+        let e₁ = ap (λ (x : AfterRecord). x .end) record-is in
         let y : walkOf (memory n e s w₂) r 0 ≡ walked n s at n (visitNode at v x₀) = q ∙ walked-is in
         record {
           fits = omega (arith, pre .fits);

@@ -2,30 +2,29 @@
 use mathlib.Core.Path.{_≡_, refl, sym, ap, _∙_, subst}
 use mathlib.Core.Bool.{Bool, true, false, cond, not}
 use mathlib.Core.List.{List, [], _∷_, _++_, map, map-map}
-use Prim.Native.Nat.{ℕ, zero, suc, _+_, _-_, _≤_, _<_}
+use Prim.Native.Nat.{ℕ, zero, suc, _+_, _≤_, _<_}
 use native.Mathlib.Nat.{add-zero}
 use native.Mathlib.Numerals.{add-one}
 use native.Mathlib.Omega.{arith}
 use lib.Dec.{eqb}
-use lib.ListN.{length, getD, drop, length-map, length-append}
+use lib.ListN.{length, getD, length-map, length-append}
 use Rattle.definition.specs.Lists.{range, concat, consIf, mem}
-use Rattle.definition.specs.FactorGraph.{Bale, Node, gradeNode, Edge, Graph, eqNode, builtNodes, builtEdges}
-use Rattle.definition.specs.Components.{addAllNew, Search, walk, walkStart, neighbours, componentFrom, componentsFrom, components, componentsOf}
+use Rattle.definition.specs.FactorGraph.{Bale, Node, gradeNode, Edge, Graph, eqNode, builtNodes, builtEdges, eqPair}
+use Rattle.definition.specs.Components.{Search, walk, walkStart, neighbours, componentFrom, componentsFrom, components, componentsOf}
 use Rattle.graph_laws.specs.Bools.{eqb-sound, eqb-same}
 use Rattle.graph_laws.specs.Lists.{All, All-mono, map-cong, upto}
 use Rattle.graph_laws.specs.Ranks.{NoDup, mem-upto, getD-index}
 use Rattle.graph_laws.specs.Locality.{Part, of-nodes, all-components}
 use Rattle.graph_laws.specs.Components.{Both, Holds, IsComponent, components-are, part-ends}
-use Rattle.graph_laws.specs.AloneChecks.{eqPair, length-upto}
+use Rattle.graph_laws.specs.AloneChecks.{length-upto}
 use Rattle.graph_laws.specs.Names.{Valid, eqNode-sound, eqNode-same}
-use Rattle.graph_laws.specs.Numbers.{number, numbered, noEdge, edgeByNumber, incidentNumbers, subgraphByNumber, kindByNumber, numbered-components, numbered-subgraph}
+use Rattle.graph_laws.specs.Numbers.{number, numbered, noEdge, edgeByNumber, subgraphByNumber, kindByNumber, numbered-components, numbered-subgraph}
 use Rattle.list_laws.specs.Put.{put, length-put, put-next, put-none}
 use Rattle.factor_graph.specs.Words.{label, graphWords, componentWords, componentsWords}
 use Rattle.components.specs.ComponentMemory.{Memory}
-use Rattle.components.specs.ComponentRecorded.{Recorded, recordedOf}
-use Rattle.components.specs.ComponentSearch.{numberAll}
+use Rattle.components.specs.ComponentRecorded.{AfterRecord}
 use Rattle.components.specs.ComponentStep.{componentAt}
-use Rattle.components.specs.ComponentAll.{allFrom}
+use Rattle.components.specs.ComponentAll.{AllSoFar, allFrom}
 use Rattle.components.specs.ComponentBuilt.{numberedEdges, ends-below, nodes-count}
 use Rattle.components.specs.ComponentBuiltWords.{nodeTotal, slotTotal}
 use Rattle.components.specs.ComponentByNumber.{wordsByNumber, Between, step-is, step-held}
@@ -48,10 +47,6 @@ module _ (b : Bale) (valid : Valid b) (once : NoDup eqPair (b .pairs)) where
   abbrev G : Graph ℕ
   G = record { nodes = upto (length (builtNodes b)); edges = numberedEdges b valid once }
 
-  graph-is : numbered b ≡ G
-  unfolding numbered
-  graph-is = refl
-
   inside : All (λ (e : Edge ℕ). Holds eqb (G .nodes) (e .node1) × Holds eqb (G .nodes) (e .node2)) (G .edges)
   inside =
       all-of (λ (e : Edge ℕ). Holds eqb (G .nodes) (e .node1) × Holds eqb (G .nodes) (e .node2)) es noEdge
@@ -72,7 +67,7 @@ module _ (b : Bale) (valid : Valid b) (once : NoDup eqPair (b .pairs)) where
   component-is done v = ap (λ (k : ℕ). walk eqb done nb k (walkStart v)) fuel
 
   -- what is left after the nodes from i on
-  pub record Left (m : Memory) (at c : ℕ) (ps : List (List ℕ)) (x : Rattle.components.specs.ComponentAll.All) : Type 0 where
+  pub record Left (m : Memory) (at c : ℕ) (ps : List (List ℕ)) (x : AllSoFar) : Type 0 where
     pub graph : x .memory .graph ≡ m .graph
     pub out : x .memory .out ≡ put (m .out) at (concat (map (wordsByNumber b valid once) ps))
     pub count : x .count ≡ c + length ps
@@ -101,7 +96,7 @@ module _ (b : Bale) (valid : Valid b) (once : NoDup eqPair (b .pairs)) where
         let held₁ = step-held b valid once at done m held i below new both over (omega (arith, room)) in
         let y = length-put (m .out) at (W p) (omega (arith, room)) in
         let l = f (c + 1) (at + length (W p)) _ held₁ (omega (arith, room, y)) in
-        let x = ap (λ (u : Recorded). allFrom n s k (i + 1) (c + 1) (u .end) (u .memory)) eq in
+        let x = ap (λ (u : AfterRecord). allFrom n s k (i + 1) (c + 1) (u .end) (u .memory)) eq in
         subst (Left m at c (p ∷ ps)) (sym x)
         (record {
           graph = l .graph;
@@ -163,7 +158,7 @@ module _ (b : Bale) (valid : Valid b) (once : NoDup eqPair (b .pairs)) where
   parts-count = ap length parts-are ∙ length-map (componentsOf b) (map (number b))
 
   -- all components: from words that hold the built graph, with no node numbered
-  pub record Found (m : Memory) (x : Rattle.components.specs.ComponentAll.All) : Type 0 where
+  pub record Found (m : Memory) (x : AllSoFar) : Type 0 where
     pub graph : x .memory .graph ≡ m .graph
     pub out : x .memory .out ≡ put (m .out) 0 (componentsWords b)
     pub count : x .count ≡ length (componentsOf b)
@@ -184,88 +179,3 @@ module _ (b : Bale) (valid : Valid b) (once : NoDup eqPair (b .pairs)) where
         count = l .count ∙ omega (arith, parts-count);
         end = l .end ∙ omega (arith, ap length parts-words);
       }
-
-  -- ---- one component at a time
-
-  -- the components ps are still to come, from node i on
-  pub record Remaining (ps : List (List Node)) (i : ℕ) (m : Memory) : Type 0 where
-    pub done : List ℕ
-    pub held : Between b valid once done m
-    pub rest : componentsFrom eqb G (range i (n - i)) done ≡ map (map (number b)) ps
-    pub are : All (IsComponent eqb G) (componentsFrom eqb G (range i (n - i)) done)
-    pub parts : All (Part b valid) ps
-
-  -- at first all are to come
-  pub remaining-all : (m : Memory) → Between b valid once [] m → Remaining (componentsOf b) 0 m
-  remaining-all m held =
-      let z : n - 0 ≡ n = omega arith in
-      record {
-        done = [];
-        held = held;
-        rest = ap (λ (k : ℕ). componentsFrom eqb G (range 0 k) []) z ∙ parts-are;
-        are = subst (λ (k : ℕ). All (IsComponent eqb G) (componentsFrom eqb G (range 0 k) [])) (sym z) are-all;
-        parts = all-components b valid;
-      }
-
-  left-over : (i : ℕ) → i < n → n - i ≡ suc (n - (i + 1))
-  left-over i h = omega arith
-
-  -- a node that has a number begins none
-  pub remaining-passed : (ps : List (List Node)) (i : ℕ) (m : Memory) → i < n → eqb (getD (m .nodeNumbers) i 0) 0 ≡ false → Remaining ps i m → Remaining ps (i + 1) m
-  remaining-passed ps i m h q r =
-      let d = r .done in
-      let t : mem eqb i d ≡ true = negated (mem eqb i d) (sym (r .held .marks i h) ∙ q) in
-      let e : componentsFrom eqb G (range i (n - i)) d ≡ componentsFrom eqb G (range (i + 1) (n - (i + 1))) d =
-      ap (λ (k : ℕ). componentsFrom eqb G (range i k) d) (left-over i h)
-      ∙ ap (λ (c : Bool). consIf (not c) (componentFrom eqb G d i .visited) (componentsFrom eqb G (range (suc i) (n - (i + 1))) (cond c d (componentFrom eqb G d i .visited ++ d)))) t
-      ∙ ap (λ (j : ℕ). componentsFrom eqb G (range j (n - (i + 1))) d) (sym (add-one i))
-      in
-      record { done = d; held = r .held; rest = sym e ∙ r .rest; are = subst (All (IsComponent eqb G)) e (r .are); parts = r .parts }
-    where
-      negated : (c : Bool) → not c ≡ false → c ≡ true
-      negated true z = refl
-      negated false z = sym z
-
-  -- behind the last node none is left
-  pub remaining-none : (ps : List (List Node)) (i : ℕ) (m : Memory) → n ≤ i → Remaining ps i m → length ps ≡ 0
-  remaining-none ps i m h r =
-      let z : n - i ≡ 0 = omega arith in
-      sym (length-map ps (map (number b))) ∙ ap length (sym (r .rest)) ∙ ap (λ (k : ℕ). length (componentsFrom eqb G (range i k) (r .done))) z
-
-  -- what the code leaves of the next component p, whose first node is i
-  pub record NextIs (p : List Node) (ps : List (List Node)) (at i : ℕ) (m : Memory) : Type 0 where
-    pub left : Memory
-    pub is : componentAt (nodeTotal b) (slotTotal b) at i m ≡ recordedOf left (at + length (componentWords b p))
-    pub graph : left .graph ≡ m .graph
-    pub out : left .out ≡ put (m .out) at (componentWords b p)
-    pub then : Remaining ps (i + 1) left
-
-  pub next-is : (p : List Node) (ps : List (List Node)) (at i : ℕ) (m : Memory) → i < n → eqb (getD (m .nodeNumbers) i 0) 0 ≡ true
-      → at + length (componentWords b p) ≤ length (m .out) → Remaining (p ∷ ps) i m → NextIs p ps at i m
-  next-is p ps at i m h q room r =
-      let d = r .done in
-      let new : mem eqb i d ≡ false = negated (mem eqb i d) (sym (r .held .marks i h) ∙ q) in
-      let P = walk eqb d nb n (walkStart i) .visited in
-      let e : componentsFrom eqb G (range i (n - i)) d ≡ P ∷ componentsFrom eqb G (range (i + 1) (n - (i + 1))) (P ++ d) =
-      ap (λ (k : ℕ). componentsFrom eqb G (range i k) d) (left-over i h)
-      ∙ ap (λ (c : Bool). consIf (not c) (componentFrom eqb G d i .visited) (componentsFrom eqb G (range (suc i) (n - (i + 1))) (cond c d (componentFrom eqb G d i .visited ++ d)))) new
-      ∙ ap (λ (x : Search ℕ). x .visited ∷ componentsFrom eqb G (range (suc i) (n - (i + 1))) (x .visited ++ d)) (component-is d i)
-      ∙ ap (λ (j : ℕ). P ∷ componentsFrom eqb G (range j (n - (i + 1))) (P ++ d)) (sym (add-one i))
-      in
-      let f : P ∷ componentsFrom eqb G (range (i + 1) (n - (i + 1))) (P ++ d) ≡ map (number b) p ∷ map (map (number b)) ps = sym e ∙ r .rest in
-      let a : All (IsComponent eqb G) (P ∷ componentsFrom eqb G (range (i + 1) (n - (i + 1))) (P ++ d)) = subst (All (IsComponent eqb G)) e (r .are) in
-      let w : W P ≡ componentWords b p = ap (λ (l : List (List ℕ)). W (getD l 0 [])) f ∙ words-of p (r .parts .0) in
-      let y : at + length (W P) ≤ length (m .out) = rw w room in
-      let o = over at m d (r .held) i h new in
-      let L : Memory = record { graph = m .graph; nodeNumbers = numberAll 0 (m .nodeNumbers) P; edgeNumbers = numberAll 0 (m .edgeNumbers) (addAllNew eqb [] (concat (map (incidentNumbers (numberedEdges b valid once)) P))); stack = m .stack; out = put (m .out) at (W P) } in
-      record {
-        left = L;
-        is = step-is b valid once at d m (r .held) i h new (a .0 .both) o y ∙ ap (λ (l : List ℕ). recordedOf L (at + length l)) w;
-        graph = refl;
-        out = ap (put (m .out) at) w;
-        then = record { done = P ++ d; held = step-held b valid once at d m (r .held) i h new (a .0 .both) o y; rest = ap (drop 1) f; are = a .1; parts = r .parts .1 };
-      }
-    where
-      negated : (c : Bool) → not c ≡ true → c ≡ false
-      negated true z = sym z
-      negated false z = refl

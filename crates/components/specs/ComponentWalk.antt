@@ -328,9 +328,6 @@ module _ (n e s at : ℕ) where
     pub turn-graph : turn n s at x .memory .graph ≡ x .memory .graph
     turn-graph = pop-kept .graph
 
-    pub turn-out : length (turn n s at x .memory .out) ≡ length (x .memory .out)
-    turn-out = pop-kept .out
-
   -- no turn makes the count less
   pub walked-more : (k : ℕ) (x : Walk) → Walking x → x .count ≤ walked n s at k x .count
   unfolding walked

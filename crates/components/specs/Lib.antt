@@ -17,6 +17,5 @@ pub mod ComponentBuiltWords
 pub mod ComponentByNumber
 pub mod ComponentTheorems
 pub mod ComponentReady
-pub mod ComponentPositions
 pub mod ComponentRoom
 pub mod ComponentCut

@@ -1,7 +1,7 @@
 // The record of a component, once its nodes are known: kinds, labels, first slots, slots and edges.
 ghost use mathlib.Core.Path.{_≡_};
 ghost use mathlib.Core.Logic.{_⊎_};
-ghost use Prim.Native.Nat.{ℕ, _+_, _-_, _*_, _≤_, _<_};
+ghost use Prim.Native.Nat.{ℕ, _+_, _-_, _≤_, _<_};
 ghost use lib.ListN.{length, getD};
 ghost use Rattle.list_laws.specs.Write.{write};
 ghost use Rattle.components.specs.ComponentMemory.{memory, withOut};

@@ -67,10 +67,6 @@ module _ (w₀ : List Float) (p n : ℕ) (fits : (p + 3) * n ≤ length w₀ + 1
     twice : c ≡ 2 * (c / 2)
     twice = omega (arith, even)
 
-    -- the layer
-    abbrev own : List (List Float)
-    own = nodes m c (drop at w)
-
     abbrev above : List (List Float)
     above = countLayer (nodes m c (drop at w))
 

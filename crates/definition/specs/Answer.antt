@@ -6,6 +6,7 @@ use lib.Dec.{ltb}
 use lib.Ieee.{Float}
 use lib.ListN.{length}
 use Rattle.definition.specs.Floats.{_⊕_, zeroᶠ, ln}
+use Rattle.definition.specs.Lists.{concat}
 use Rattle.definition.specs.Vectors.{Message, entry, sumOf, logNormalize}
 use Rattle.definition.specs.Settings.{Settings}
 use Rattle.definition.specs.FactorGraph.{Bale, Node, gradeNode, factorNode, inputNode, treeNode, grade}
@@ -76,19 +77,16 @@ endingResidual (settled r) = r
 endingResidual empty = zeroᶠ
 
 unfoldable pub answeredBeliefs : List PartAnswer → List Belief
-answeredBeliefs [] = []
-answeredBeliefs (p ∷ ps) = p .beliefs ++ answeredBeliefs ps
+answeredBeliefs ps = concat (map (λ (p : PartAnswer). p .beliefs) ps)
 
 unfoldable pub beliefNumbers : List Belief → List ℕ
 beliefNumbers = map (λ (b : Belief). b .grade)
 
 unfoldable pub beliefFloats : List Belief → List Float
-beliefFloats [] = []
-beliefFloats (b ∷ bs) = b .value ++ beliefFloats bs
+beliefFloats bs = concat (map (λ (b : Belief). b .value) bs)
 
 unfoldable pub endingNumbers : List PartAnswer → List ℕ
-endingNumbers [] = []
-endingNumbers (p ∷ ps) = p .number ∷ endingNumber (p .ending) ∷ p .steps ∷ length (p .beliefs) ∷ endingNumbers ps
+endingNumbers ps = concat (map (λ (p : PartAnswer). p .number ∷ endingNumber (p .ending) ∷ p .steps ∷ length (p .beliefs) ∷ []) ps)
 
 unfoldable pub endingFloats : List PartAnswer → List Float
 endingFloats = map (λ (p : PartAnswer). endingResidual (p .ending))

@@ -4,8 +4,9 @@ use mathlib.Core.Bool.{Bool, false, cond, not, _&&_}
 use mathlib.Core.Option.{Option, none, some}
 use mathlib.Core.List.{List, [], _∷_, map}
 use lib.Dec.{eqb, leb}
-use lib.ListN.{length}
+use lib.ListN.{length, getD}
 use Rattle.definition.specs.Floats.{ratio}
+use Rattle.definition.specs.Lists.{filter}
 use Rattle.definition.specs.Settings.{Settings}
 use Rattle.definition.specs.FactorGraph.{Evidence, Pair, Bale}
 
@@ -65,19 +66,14 @@ badWord bs = badWordFrom (not (eqb (length bs % 4) 0)) 0 0 (words bs)
 -- ---- what a good file says
 
 unfoldable pub wordsOfKind : ℕ → List ℕ → List ℕ
-wordsOfKind k [] = []
-wordsOfKind k (w ∷ ws) = let r = wordsOfKind k ws in cond (eqb (wordKind w) k) (w ∷ r) r
+wordsOfKind k ws = filter (λ w. eqb (wordKind w) k) ws
 
--- the first word of a kind
 unfoldable pub firstOfKind : ℕ → List ℕ → ℕ
-firstOfKind k [] = 0
-firstOfKind k (w ∷ ws) = let r = firstOfKind k ws in cond (eqb (wordKind w) k) w r
+firstOfKind k ws = getD (wordsOfKind k ws) 0 0
 
--- alpha and beta in 1,024ths, prior and regularised; the loop limit is 10,000 and the tolerance 0.006
-unfoldable pub settingsOf : List ℕ → Settings
-settingsOf ws =
-    let a = firstOfKind 1 ws in
-    let p = firstOfKind 2 ws in
+-- word a has alpha and beta in 1,024ths, word p prior and regularised; the loop limit is 10,000 and the tolerance 0.006
+abbrev pub codedSettings : ℕ → ℕ → Settings
+codedSettings a p =
     record {
       alpha = ratio (bits 20 10 a) 1024;
       beta = ratio (bits 10 0 a) 1024;
@@ -86,6 +82,9 @@ settingsOf ws =
       tolerance = ratio 6 1000;
       loopLimit = 10000;
     }
+
+unfoldable pub settingsOfWords : List ℕ → Settings
+settingsOfWords ws = codedSettings (firstOfKind 1 ws) (firstOfKind 2 ws)
 
 -- e means [(16384 - e) / 16384, e / 16384]; where e is over 16,384 the second is over 1, which number 5 refuses
 unfoldable pub evidenceOf : ℕ → Evidence

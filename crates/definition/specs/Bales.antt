@@ -20,10 +20,10 @@ use Rattle.definition.specs.Sweeps.{initialMessage, updateKind, openingI
 use Rattle.definition.specs.Priorities.{exceeds, higher, highestFrom, highestPriority}
 use Rattle.definition.specs.Run.{initialPriority, beginLoop, updateSingle, neighbourNumbers, updateTree, updateMessage, otherOutgoing, addPending, pushPriorities, scheduledStep, applyEvent, stateAfter, openingAndSweeps, events, loop, run}
 use Rattle.definition.specs.Answer.{logMarginal, marginal, beliefsAmong, partAnswer, answersOf, answersFrom, answer, endingNumber, endingResidual, answeredBeliefs, beliefNumbers, beliefFloats, endingNumbers, endingFloats}
-use Rattle.definition.specs.Refusals.{markersOf, pairsOf, baleOf, outside, tooMany, workNeeded, tooSmall, badTolerance, badEvidence, unknownPair, equalPairs, lowestPlaceFrom, lowestPlace, isAmong, repeatedPairs, tooManyGrades, orRefused, verdict, Buffers, accepted, refused}
-use Rattle.definition.specs.BaleFile.{words, wordKind, bits, fieldWidth, cleanWord, mayFollow, badWordFrom, badWord, wordsOfKind, firstOfKind, settingsOf, evidenceOf, pairOf, baleOfWords}
+use Rattle.definition.specs.Refusals.{markersOf, pairsOf, baleOf, outside, tooMany, workNeeded, tooSmall, badTolerance, badEvidence, unknownPair, lowestPlaceFrom, lowestPlace, repeatedPairs, tooManyGrades, orRefused, verdict, Buffers, accepted, refused}
+use Rattle.definition.specs.BaleFile.{words, wordKind, bits, fieldWidth, cleanWord, mayFollow, badWordFrom, badWord, wordsOfKind, firstOfKind, settingsOfWords, evidenceOf, pairOf, baleOfWords}
 use Rattle.definition.specs.Listing.{decimalBefore, decimal, hexDigit, hexBefore, hex, line, partFields, beliefLine, beliefLines, partLines, baleLine, refusal, verdictLines, fileLines, listing}
-use Rattle.definition.specs.Lists.{range, patterns}
+use Rattle.definition.specs.Lists.{range, concat, patterns}
 use Rattle.definition.specs.Reads.{withReads, allWeak, presentOf, presentUnder, aboveHalf}
 use Rattle.definition.specs.Report.{ReportBuffers, ampleFor, sizesVerdict}
 use Rattle.definition.specs.Patterns.{patternCount, patternCounts, patternVerdict}
@@ -34,8 +34,7 @@ use Rattle.definition.specs.Text.{ascii}
 
 -- 32-bit words as the bytes of a file
 abbrev littleEndian : List ℕ → List ℕ
-littleEndian [] = []
-littleEndian (w ∷ ws) = (w % 256) ∷ (w / 256 % 256) ∷ (w / 65536 % 256) ∷ (w / 16777216) ∷ littleEndian ws
+littleEndian ws = concat (map (λ w. (w % 256) ∷ (w / 256 % 256) ∷ (w / 65536 % 256) ∷ (w / 16777216) ∷ []) ws)
 
 -- alpha is a/d, and beta and the prior are 1/2
 abbrev settings : ℕ → ℕ → Bool → Settings
@@ -150,7 +149,7 @@ pub record Bales : Type 0 where
   pub no-setting : trialVerdict (reporting 0) (trying [] 0 1 (unmarked 1)) ≡ accepted
 
 pub bales : Bales
-unfolding round add sub mul div neg lt le eq isNan ofInt toUnsigned toBits size ofBits maxᶠ abs avoidUnderflow clamp logTableNumber logTableEntry lnOfBits ln expSeries expReduced exp powiFrom powi sumOf productFrom productOf normalize avoidUnderflowAll logNormalize sumLogBlocks sumLogsBatched cpdAbsent cpdAbsentRegularised cpdRows cpdTable convolve countLayer messageUp likelihoodsBelow treeLayers logLength firstLayer treeMessages builtGraph walk components componentsOf subgraph subgraphOf edgeAt directionTo directionsTo firstsIncoming directionFrom messageNodesFrom messageGraph messageGraphOf setMessages copyNode copyNodes initialBelief outMessageLog outMessageVariable outMessageFactor outMessageFactorTo outMessageBy outMessage absLogRatio pairResidual vectorResidual residual equalMessages messageChange changeExceeds needsRebuild treeOutMessages outMessagesTree outMessages initialMessage updateKind openingInput openingFactor logTotal leaveOneOut openingVariable openingGrade initializeMessages opening computeUpdate sweep initialPriority beginLoop exceeds higher highestFrom highestPriority updateSingle neighbourNumbers updateTree updateMessage otherOutgoing addPending pushPriorities scheduledStep applyEvent stateAfter openingAndSweeps events loop run logMarginal marginal beliefsAmong partAnswer answersOf answersFrom answer endingNumber endingResidual answeredBeliefs beliefNumbers beliefFloats endingNumbers endingFloats markersOf pairsOf baleOf outside tooMany workNeeded tooSmall badTolerance badEvidence unknownPair equalPairs lowestPlaceFrom lowestPlace isAmong repeatedPairs tooManyGrades orRefused verdict words wordKind bits fieldWidth cleanWord mayFollow badWordFrom badWord wordsOfKind firstOfKind settingsOf evidenceOf pairOf baleOfWords decimalBefore decimal hexDigit hexBefore hex line partFields beliefLine beliefLines partLines baleLine refusal verdictLines fileLines listing ascii patterns withReads presentOf aboveHalf patternCount patternCounts ampleFor sizesVerdict allWeak patternVerdict nextNumber draw drawEach drawReads markerLimits readLimits gradeLimits madeUp history settingsWith settingsUnder judgements allJudgements settingCounts trialCounts outsideRange settingTests trialVerdict trialSettingsOf
+unfolding round add sub mul div neg lt le eq isNan ofInt toUnsigned toBits size ofBits maxᶠ abs avoidUnderflow clamp logTableNumber logTableEntry lnOfBits ln expSeries expReduced exp powiFrom powi sumOf productFrom productOf normalize avoidUnderflowAll logNormalize sumLogBlocks sumLogsBatched cpdAbsent cpdAbsentRegularised cpdRows cpdTable convolve countLayer messageUp likelihoodsBelow treeLayers logLength firstLayer treeMessages builtGraph walk components componentsOf subgraph subgraphOf edgeAt directionTo directionsTo firstsIncoming directionFrom messageNodesFrom messageGraph messageGraphOf setMessages copyNode copyNodes initialBelief outMessageLog outMessageVariable outMessageFactor outMessageFactorTo outMessageBy outMessage absLogRatio pairResidual vectorResidual residual equalMessages messageChange changeExceeds needsRebuild treeOutMessages outMessagesTree outMessages initialMessage updateKind openingInput openingFactor logTotal leaveOneOut openingVariable openingGrade initializeMessages opening computeUpdate sweep initialPriority beginLoop exceeds higher highestFrom highestPriority updateSingle neighbourNumbers updateTree updateMessage otherOutgoing addPending pushPriorities scheduledStep applyEvent stateAfter openingAndSweeps events loop run logMarginal marginal beliefsAmong partAnswer answersOf answersFrom answer endingNumber endingResidual answeredBeliefs beliefNumbers beliefFloats endingNumbers endingFloats markersOf pairsOf baleOf outside tooMany workNeeded tooSmall badTolerance badEvidence unknownPair lowestPlaceFrom lowestPlace repeatedPairs tooManyGrades orRefused verdict words wordKind bits fieldWidth cleanWord mayFollow badWordFrom badWord wordsOfKind firstOfKind settingsOfWords evidenceOf pairOf baleOfWords decimalBefore decimal hexDigit hexBefore hex line partFields beliefLine beliefLines partLines baleLine refusal verdictLines fileLines listing ascii patterns withReads presentOf aboveHalf patternCount patternCounts ampleFor sizesVerdict allWeak patternVerdict nextNumber draw drawEach drawReads markerLimits readLimits gradeLimits madeUp history settingsWith settingsUnder judgements allJudgements settingCounts trialCounts outsideRange settingTests trialVerdict trialSettingsOf
 bales =
     record {
       listed = refl;

@@ -6,7 +6,7 @@ use lib.Ieee.{Float, size}
 use lib.ListN.{length, take, drop, replicate}
 use Rattle.definition.specs.Floats.{_⊗_, zeroᶠ, oneᶠ}
 use Rattle.definition.specs.Vectors.{Message, binary, sumOf, zipWith, normalize, avoidUnderflowAll}
-use Rattle.definition.specs.Lists.{range}
+use Rattle.definition.specs.Lists.{range, twos}
 
 -- ---- up: the distribution of a sum
 
@@ -16,9 +16,7 @@ convolve a b = map (λ (k : ℕ). sumOf (zipWith _⊗_ (drop (suc k - length b) 
 
 -- the layer above: one count node for two (`create_count_node`)
 unfoldable pub countLayer : List (List Float) → List (List Float)
-countLayer [] = []
-countLayer (a ∷ []) = []
-countLayer (a ∷ b ∷ l) = normalize (convolve a b) ∷ countLayer l
+countLayer = twos (λ (a b : List Float). normalize (convolve a b))
 
 -- ---- down: the likelihoods
 

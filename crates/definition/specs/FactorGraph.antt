@@ -20,6 +20,9 @@ pub record Pair : Type 0 where
   pub grade : ℕ
   pub marker : ℕ
 
+abbrev pub eqPair : Pair → Pair → Bool
+eqPair q r = eqb (q .grade) (r .grade) && eqb (q .marker) (r .marker)
+
 pub record Bale : Type 0 where
   pub grades : ℕ
   pub markers : List Evidence

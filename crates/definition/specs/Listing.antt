@@ -6,13 +6,14 @@ use mathlib.Core.List.{List, [], _∷_, _++_, map}
 use lib.Dec.{ltb}
 use lib.Ieee.{Float, binary32, toBits}
 use lib.ListN.{length}
+use Rattle.definition.specs.Lists.{concat}
 use Rattle.definition.specs.Settings.{Settings}
 use Rattle.definition.specs.FactorGraph.{Bale}
 use Rattle.definition.specs.Run.{Ending, limit, settled, empty}
 use Rattle.definition.specs.Answer.{Belief, PartAnswer, answer}
-use Rattle.definition.specs.Refusals.{Buffers, Verdict, accepted, refused, tooMany, orRefused, lowestPlace, verdict}
+use Rattle.definition.specs.Refusals.{Buffers, Verdict, accepted, refused, tooMany, leastBuffers, orRefused, lowestPlace, verdict}
 use Rattle.definition.specs.Text.{ascii}
-use Rattle.definition.specs.BaleFile.{words, badWord, settingsOf, baleOfWords}
+use Rattle.definition.specs.BaleFile.{words, badWord, settingsOfWords, baleOfWords}
 
 -- ---- numbers
 
@@ -51,12 +52,12 @@ unfoldable pub beliefLine : Belief → List ℕ
 beliefLine b = line (decimal (b .grade) ∷ map hex (b .value))
 
 unfoldable pub beliefLines : List Belief → List ℕ
-beliefLines [] = []
-beliefLines (b ∷ bs) = beliefLine b ++ beliefLines bs
+beliefLines bs = concat (map beliefLine bs)
 
+-- a part's own line, and below it its beliefs'
 unfoldable pub partLines : List PartAnswer → List ℕ
-partLines [] = []
-partLines (p ∷ ps) = line (ascii "part" ∷ decimal (p .number) ∷ partFields (p .ending) (decimal (p .steps))) ++ beliefLines (p .beliefs) ++ partLines ps
+partLines ps =
+    concat (map (λ (p : PartAnswer). line (ascii "part" ∷ decimal (p .number) ∷ partFields (p .ending) (decimal (p .steps))) ++ beliefLines (p .beliefs)) ps)
 
 unfoldable pub baleLine : Bale → List ℕ
 baleLine b = line (ascii "bale" ∷ decimal (b .grades) ∷ decimal (length (b .markers)) ∷ decimal (length (b .pairs)) ∷ [])
@@ -66,9 +67,9 @@ refusal n p = line (ascii "refused" ∷ decimal n ∷ ascii "at" ∷ decimal p �
 
 -- ---- the program
 
--- The program lends enough of every buffer for 24 grades, 24 markers and 140 pairs, which is the most it takes.
+-- The program lends what 24 grades, 24 markers and 140 pairs need, which is the most it takes.
 abbrev pub buffers : Buffers
-buffers = record { workFloats = 16128; workNumbers = 16128; beliefNumbers = 24; beliefFloats = 48; endingNumbers = 96; endingFloats = 24 }
+buffers = leastBuffers 24 24 140
 
 unfoldable pub verdictLines : Verdict → Settings → Bale → List ℕ
 verdictLines accepted s b = baleLine b ++ partLines (answer s b)
@@ -76,7 +77,10 @@ verdictLines (refused n p) s b = refusal n p
 
 unfoldable pub fileLines : Option ℕ → List ℕ → List ℕ
 fileLines (some i) ws = refusal 9 i
-fileLines none ws = let s = settingsOf ws in let b = baleOfWords ws in verdictLines (orRefused 1 (lowestPlace (tooMany 24 24 140 b ∷ [])) (verdict s buffers b)) s b
+fileLines none ws =
+    let s = settingsOfWords ws in
+    let b = baleOfWords ws in
+    verdictLines (orRefused 1 (lowestPlace (tooMany 24 24 140 b ∷ [])) (verdict s buffers b)) s b
 
 unfoldable pub listing : List ℕ → List ℕ
 listing bs = fileLines (badWord bs) (words bs)

@@ -5,8 +5,8 @@ use mathlib.Core.Bool.{cond}
 use mathlib.Core.List.{List, map}
 use lib.Ieee.{Float}
 use Rattle.definition.specs.Settings.{Settings}
-use Rattle.definition.specs.Floats.{_⊕_, _⊖_, _⊗_, _⊘_, zeroᶠ, oneᶠ, avoidUnderflow, ofNat, powi}
-use Rattle.definition.specs.Vectors.{sumFrom}
+use Rattle.definition.specs.Floats.{_⊕_, _⊖_, _⊗_, _⊘_, oneᶠ, avoidUnderflow, ofNat, powi}
+use Rattle.definition.specs.Vectors.{sumOf}
 use Rattle.definition.specs.Lists.{range}
 
 -- A row: the marker's absence and its presence, given how many of its grades are present.
@@ -32,6 +32,6 @@ cpdRows s d = let m : ℕ → Float = cond (s .regularised) (cpdAbsentRegularise
 unfoldable pub cpdTable : Settings → ℕ → List CpdRow
 cpdTable s d =
     let rs = cpdRows s d in
-    let t = sumFrom zeroᶠ (map (λ (r : CpdRow). r .absent ⊕ r .present) rs) in
+    let t = sumOf (map (λ (r : CpdRow). r .absent ⊕ r .present) rs) in
     let floor : Float → Float = cond (s .regularised) avoidUnderflow (λ x. x) in
     map (λ (r : CpdRow). record { absent = floor (r .absent ⊘ t); present = floor (r .present ⊘ t) }) rs

@@ -6,7 +6,7 @@ use mathlib.Core.Option.{Option, none, some}
 use mathlib.Core.List.{List, [], _∷_, _++_, map}
 use lib.Dec.{eqb, leb, ltb}
 use lib.ListN.{length, getD}
-use Rattle.definition.specs.Lists.{range, twos, mem}
+use Rattle.definition.specs.Lists.{range, concat, twos, mem}
 use Rattle.definition.specs.Refusals.{lowestPlace, Verdict, accepted, refused, orRefused}
 use Rattle.definition.specs.Call.{overwrite}
 
@@ -88,8 +88,7 @@ matchVerdict us ls size =
 
 -- each match as two numbers, upper then lower
 unfoldable pub matchNumbers : List Match → List ℕ
-matchNumbers [] = []
-matchNumbers (m ∷ ms) = m .upper ∷ m .lower ∷ matchNumbers ms
+matchNumbers ms = concat (map (λ (m : Match). m .upper ∷ m .lower ∷ []) ms)
 
 -- so many matches were written; or the refusal's number and place
 pub data MatchOutcome : Type 0 where

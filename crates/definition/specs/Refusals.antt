@@ -3,14 +3,14 @@ use Prim.Native.Nat.{ℕ, suc, _+_, _*_}
 use mathlib.Core.Bool.{Bool, true, false, not, _&&_, _||_}
 use mathlib.Core.Option.{Option, none, some}
 use mathlib.Core.List.{List, [], _∷_, map}
-use lib.Dec.{eqb, leb, ltb}
+use lib.Dec.{leb, ltb}
 use lib.Ieee.{Float, nan, inf, fin, lt, le}
 use lib.IntN.{negsuc}
 use lib.ListN.{length}
 use Rattle.definition.specs.Floats.{zeroᶠ, oneᶠ}
-use Rattle.definition.specs.Lists.{twos}
+use Rattle.definition.specs.Lists.{twos, mem}
 use Rattle.definition.specs.Settings.{Settings}
-use Rattle.definition.specs.FactorGraph.{Evidence, Pair, Bale, markerNumbers, gradesOf}
+use Rattle.definition.specs.FactorGraph.{Evidence, Pair, eqPair, Bale, markerNumbers, gradesOf}
 
 -- ---- what a call is given
 
@@ -52,14 +52,23 @@ leastEvidence = fin false 1 (negsuc 13)
 unfoldable pub tooMany : ℕ → ℕ → ℕ → Bale → Bool
 tooMany g m p b = ltb g (b .grades) || ltb m (length (b .markers)) || ltb p (length (b .pairs))
 
+-- the least that must be lent for g grades, m markers and p pairs
+abbrev pub leastBuffers : ℕ → ℕ → ℕ → Buffers
+leastBuffers g m p =
+    let w = 64 * (g + m + p) + 4096 in
+    record { workFloats = w; workNumbers = w; beliefNumbers = g; beliefFloats = 2 * g; endingNumbers = 4 * g; endingFloats = g }
+
+abbrev pub needed : Bale → Buffers
+needed b = leastBuffers (b .grades) (length (b .markers)) (length (b .pairs))
+
 unfoldable pub workNeeded : Bale → ℕ
-workNeeded b = 64 * (b .grades + length (b .markers) + length (b .pairs)) + 4096
+workNeeded b = needed b .workFloats
 
 unfoldable pub tooSmall : Buffers → Bale → Bool
 tooSmall f b =
-    let g = b .grades in
-    let w = workNeeded b in
-    ltb (f .workFloats) w || ltb (f .workNumbers) w || ltb (f .beliefNumbers) g || ltb (f .beliefFloats) (2 * g) || ltb (f .endingNumbers) (4 * g) || ltb (f .endingFloats) g
+    let n = needed b in
+    ltb (f .workFloats) (n .workFloats) || ltb (f .workNumbers) (n .workNumbers) || ltb (f .beliefNumbers) (n .beliefNumbers)
+    || ltb (f .beliefFloats) (n .beliefFloats) || ltb (f .endingNumbers) (n .endingNumbers) || ltb (f .endingFloats) (n .endingFloats)
 
 unfoldable pub badTolerance : Float → Bool
 badTolerance nan = true
@@ -72,9 +81,6 @@ badEvidence e = outside leastEvidence oneᶠ (e .absent) || outside leastEvidenc
 unfoldable pub unknownPair : Bale → Pair → Bool
 unknownPair b p = leb (b .grades) (p .grade) || leb (length (b .markers)) (p .marker)
 
-unfoldable pub equalPairs : Pair → Pair → Bool
-equalPairs p q = eqb (p .grade) (q .grade) && eqb (p .marker) (q .marker)
-
 -- ---- the lowest place at which a list of tests has a true one, i being the first
 
 unfoldable pub lowestPlaceFrom : ℕ → List Bool → Option ℕ
@@ -85,15 +91,10 @@ lowestPlaceFrom i (false ∷ bs) = lowestPlaceFrom (suc i) bs
 unfoldable pub lowestPlace : List Bool → Option ℕ
 lowestPlace = lowestPlaceFrom 0
 
--- p stands in the list
-unfoldable pub isAmong : Pair → List Pair → Bool
-isAmong p [] = false
-isAmong p (q ∷ qs) = equalPairs p q || isAmong p qs
-
 -- each pair: was it given before? The first argument has those before it.
 unfoldable pub repeatedPairs : List Pair → List Pair → List Bool
 repeatedPairs before [] = []
-repeatedPairs before (p ∷ ps) = isAmong p before ∷ repeatedPairs (p ∷ before) ps
+repeatedPairs before (p ∷ ps) = mem eqPair p before ∷ repeatedPairs (p ∷ before) ps
 
 unfoldable pub tooManyGrades : Bale → ℕ → Bool
 tooManyGrades b m = ltb 128 (length (gradesOf (b .pairs) m))

@@ -1,6 +1,6 @@
 -- A call that runs a graph under many reads and answers with a report of numbers (document 02, S-36 and S-38; the Rust has nothing of it): what it is
 -- lent, which of its checks are the plain call's, and what it leaves.
-use Prim.Native.Nat.{ℕ, _*_}
+use Prim.Native.Nat.{ℕ}
 use mathlib.Core.Bool.{_||_}
 use mathlib.Core.List.{List, [], _∷_}
 use lib.Dec.{ltb}
@@ -8,7 +8,7 @@ use lib.Ieee.{Float}
 use lib.ListN.{length, replicate}
 use Rattle.definition.specs.Floats.{zeroᶠ}
 use Rattle.definition.specs.FactorGraph.{Bale}
-use Rattle.definition.specs.Refusals.{Buffers, Verdict, accepted, refused, tooMany, workNeeded, tooSmall, lowestPlace, orRefused}
+use Rattle.definition.specs.Refusals.{Buffers, Verdict, accepted, refused, tooMany, needed, workNeeded, tooSmall, lowestPlace, orRefused}
 use Rattle.definition.specs.Call.{overwrite}
 
 -- ---- what is refused
@@ -22,8 +22,15 @@ pub record ReportBuffers : Type 0 where
 -- the lent work, and as much room for each run's answer as the plain call asks for
 unfoldable pub ampleFor : ReportBuffers → Bale → Buffers
 ampleFor f b =
-    let g = b .grades in
-    record { workFloats = f .workFloats; workNumbers = f .workNumbers; beliefNumbers = g; beliefFloats = 2 * g; endingNumbers = 4 * g; endingFloats = g }
+    let n = needed b in
+    record {
+      workFloats = f .workFloats;
+      workNumbers = f .workNumbers;
+      beliefNumbers = n .beliefNumbers;
+      beliefFloats = n .beliefFloats;
+      endingNumbers = n .endingNumbers;
+      endingFloats = n .endingFloats;
+    }
 
 -- 1, and 2 for the work or a report under n numbers; v is what the later checks say
 unfoldable pub sizesVerdict : ReportBuffers → ℕ → Bale → Verdict → Verdict

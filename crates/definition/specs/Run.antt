@@ -99,7 +99,7 @@ scheduledStep s t b x =
     let p = addPending r os (set (x .pending) (b .direction) zeroᶠ) in
     record { store = v .store; pending = p; priorities = pushPriorities p os (set (x .priorities) (b .direction) none); changed = v .changed; lastResidual = b .priority; steps = suc (x .steps) }
 
--- ---- the events: document 01's list
+-- ---- the events: document 01's list. A refused call and a part of at most 2 nodes have none, since they are not run.
 
 pub data Event : Type 0 where
   opened swept stepped : Event

@@ -10,7 +10,7 @@ use lib.Ieee.{Float}
 use lib.ListN.{length, getD, replicate}
 use Rattle.definition.specs.Floats.{halfᶠ, ratio}
 use Rattle.definition.specs.Lists.{range, filter, howMany, concat}
-use Rattle.definition.specs.Settings.{Settings}
+use Rattle.definition.specs.Settings.{Settings, settingsOf}
 use Rattle.definition.specs.FactorGraph.{Bale, markerNumbers, gradesOf}
 use Rattle.definition.specs.Refusals.{Verdict, baleOf, lowestPlace, orRefused, verdict}
 use Rattle.definition.specs.Reads.{allWeak, presentUnder, isAbove, isNotAbove}
@@ -111,7 +111,7 @@ pub record Trials : Type 0 where
   pub graph : Bale
 
 unfoldable pub settingsWith : Trials → Float → Float → Float → Settings
-settingsWith c a b p = record { alpha = a; beta = b; prior = p; regularised = c .regularised; tolerance = c .tolerance; loopLimit = c .loopLimit }
+settingsWith c a b p = settingsOf a b p (c .regularised) (c .tolerance) (c .loopLimit)
 
 unfoldable pub settingsUnder : Trials → TrialSetting → Settings
 settingsUnder c t = settingsWith c (ratio (t .alpha) 1024) (ratio (t .beta) 1024) (ratio (t .prior) 1024)

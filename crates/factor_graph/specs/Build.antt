@@ -6,12 +6,11 @@ use native.Mathlib.Omega.{arith}
 use lib.ListN.{length, getD, take, drop, set, replicate, length-replicate, length-set, length-append}
 use lib.Seq.{length-take-le}
 use Rattle.definition.specs.Lists.{range}
-use Rattle.definition.specs.FactorGraph.{Bale, Pair, gradesOf, Edge}
+use Rattle.definition.specs.FactorGraph.{Bale, Pair, eqPair, gradesOf, Edge}
 use Rattle.definition.specs.Settings.{Settings}
 use Rattle.definition.specs.Refusals.{Buffers, pairsOf}
 use Rattle.graph_laws.specs.Lists.{All, All-mono}
 use Rattle.graph_laws.specs.Ranks.{NoDup}
-use Rattle.graph_laws.specs.AloneChecks.{eqPair}
 use Rattle.graph_laws.specs.Accepted.{Passes, sized, valid, pairs-apart}
 use Rattle.list_laws.specs.Part.{region, getD-region, length-region}
 use Rattle.list_laws.specs.Put.{put, put-in, length-put}

@@ -7,7 +7,7 @@ use native.Mathlib.Omega.{arith}
 use lib.ListN.{length, getD, take, replicate, length-set, length-append, length-map, length-replicate, getD-replicate}
 use lib.Dec.{eqb}
 use Rattle.definition.specs.Lists.{consIf, filter, concat, mem, indexOf}
-use Rattle.definition.specs.FactorGraph.{Bale, Pair, Node, eqNode, Edge, eqEdge, gradesOf, markerNumbers, markerEdges, builtNodes, builtEdges, kindOf}
+use Rattle.definition.specs.FactorGraph.{Bale, Pair, eqPair, Node, eqNode, Edge, eqEdge, gradesOf, markerNumbers, markerEdges, builtNodes, builtEdges, kindOf}
 use Rattle.definition.specs.Components.{SubgraphNode, isIncident, incidentEdges, subgraphNode, subgraphEdge}
 use Rattle.graph_laws.specs.Bools.{or-left, or-right}
 use Rattle.graph_laws.specs.Lists.{All, upto, All-mono, All-every, filter-append, append-none, map-cong, mem-self}
@@ -16,7 +16,6 @@ use Rattle.graph_laws.specs.Names.{eqNode-sound, eqNode-same, Valid, built-insi
 use Rattle.graph_laws.specs.Components.{Holds}
 use Rattle.graph_laws.specs.Numbers.{number, number-inj}
 use Rattle.graph_laws.specs.Isomorphism.{onEdge}
-use Rattle.graph_laws.specs.AloneChecks.{eqPair}
 use Rattle.graph_laws.specs.Distinct.{nodes-nodup, edges-nodup}
 use Rattle.graph_laws.specs.Positions.{index-middle, nodup-middle, eqEdge-sound, eqEdge-same}
 use Rattle.graph_laws.specs.Incident.{toGrade, ofGrade, markerEdges-all}

@@ -9,11 +9,10 @@ use lib.Seq.{take-append-seam, drop-append-seam}
 use lib.Dec.{leb}
 use borrow.Author.Tests.{leb-true}
 use Rattle.definition.specs.Lists.{range, consIf, filter, concat}
-use Rattle.definition.specs.FactorGraph.{Bale, Pair, gradesOf, hasTree, markerNumbers, builtNodes, builtEdges, noEvidence, Edge}
+use Rattle.definition.specs.FactorGraph.{Bale, Pair, eqPair, gradesOf, hasTree, markerNumbers, builtNodes, builtEdges, noEvidence, Edge}
 use Rattle.definition.specs.Components.{SubgraphNode}
 use Rattle.graph_laws.specs.Lists.{All, upto, range-append, concat-append, All-mono}
 use Rattle.graph_laws.specs.Ranks.{NoDup}
-use Rattle.graph_laws.specs.AloneChecks.{eqPair}
 use Rattle.graph_laws.specs.Numbers.{number}
 use Rattle.graph_laws.specs.Isomorphism.{onEdge}
 use Rattle.graph_laws.specs.Sizes.{nodes-length, edges-length}

@@ -6,11 +6,10 @@ use native.Mathlib.Omega.{arith}
 use lib.ListN.{length, getD, take, drop, length-append, length-drop, length-map, List·getD-append}
 use lib.Seq.{getD-append-add, take-append-le, take-append-seam, drop-append-le, drop-append-add}
 use Rattle.definition.specs.Lists.{concat}
-use Rattle.definition.specs.FactorGraph.{Bale, builtNodes, grade}
+use Rattle.definition.specs.FactorGraph.{grade}
 use Rattle.definition.specs.Components.{SubgraphNode, Subgraph}
 use Rattle.list_laws.specs.Part.{region}
-use Rattle.list_laws.specs.Put.{put}
-use Rattle.factor_graph.specs.Words.{kindCode, edgeWords, firstSlots, graphWords, label, numberedGraph, builtWords}
+use Rattle.factor_graph.specs.Words.{kindCode, edgeWords, firstSlots, graphWords}
 
 -- for a node that is not there
 abbrev pub noNode : SubgraphNode
@@ -203,14 +202,3 @@ read-is words node h labels g r =
     ∙ ap (λ (x : ℕ). take (3 + 3 * n + x - (3 + 3 * n + o)) (drop (3 + 3 * n + o) words)) e
     ∙ ap (λ (x : ℕ). take x (drop (3 + 3 * n + o) words)) z
     ∙ list-is words labels g r node l
-
--- ---- the built graph: after `build` the words begin with its record
-
-pub built-record : (b : Bale) (w words : List ℕ) → words ≡ put w 0 (builtWords b) → RecordOf words (map label (builtNodes b)) (numberedGraph b)
-unfolding builtWords numberedGraph put
-built-record b w words e =
-    record {
-      rest = drop (0 + length (builtWords b)) w;
-      whole = e;
-      labelled = length-map (builtNodes b) label ∙ sym (length-map (builtNodes b) _);
-    }

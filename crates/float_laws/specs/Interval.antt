@@ -20,11 +20,11 @@ abbrev pub allb : List Bool → Bool
 allb [] = true
 allb (c ∷ cs) = c && allb cs
 
-abbrev pub All : List Bool → Type 0
-All [] = Unit {0}
-All (c ∷ cs) = T c × All cs
+abbrev pub AllTrue : List Bool → Type 0
+AllTrue [] = Unit {0}
+AllTrue (c ∷ cs) = T c × AllTrue cs
 
-pub all→ : (cs : List Bool) → T (allb cs) → All cs
+pub all→ : (cs : List Bool) → T (allb cs) → AllTrue cs
 all→ [] t = tt
 all→ (c ∷ cs) t = (and-l c (allb cs) t, all→ cs (and-r c (allb cs) t))
 

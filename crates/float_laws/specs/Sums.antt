@@ -1,7 +1,7 @@
 -- Sums of floats from the left, and lists whose entries lie in an interval.
 use mathlib.Core.Path.{_≡_, refl, sym, ap, _∙_, subst}
 use mathlib.Core.Bool.{true, false, true≢false}
-use mathlib.Core.List.{List, [], _∷_, _++_}
+use mathlib.Core.List.{List, [], _∷_}
 use Prim.Native.Nat.{ℕ, zero, suc, _+_, _*_, _^_, _≤_, _<_}
 use native.Mathlib.Nat.{not-suc-le-zero, le-of-suc-le-suc, add-zero, zero-add, mul-one, zero-mul, suc-mul, add-mul, mul-comm, mul-assoc, mul-left-comm, zero-lt-suc}
 use native.Mathlib.Omega.{arith}
@@ -23,19 +23,10 @@ use Rattle.float_laws.specs.Ops.{add-is}
 use Rattle.float_laws.specs.Laws.{zeroᶠ, oneᶠ, positive-of-le, add-mono, add-grows, add-grows-r, div-at-most-one, div-at-least-zero}
 use Rattle.float_laws.specs.Interval.{In}
 
-pub sum-snoc : (a : Float) (xs : List Float) (x : Float) → sumFrom a (xs ++ (x ∷ [])) ≡ add binary32 (sumFrom a xs) x
-sum-snoc a [] x = refl
-sum-snoc a (y ∷ xs) x = sum-snoc (add binary32 a y) xs x
-
 -- ---- each entry lies in [lo, hi]
 abbrev pub Each : Float → Float → List Float → Type 0
 Each lo hi [] = Unit {0}
 Each lo hi (x ∷ xs) = In lo hi x × Each lo hi xs
-
-pub each-at : (lo hi : Float) (xs : List Float) (i : ℕ) → Each lo hi xs → i < length xs → In lo hi (getD xs i nan)
-each-at lo hi [] i e h = absurd (not-suc-le-zero h)
-each-at lo hi (x ∷ xs) zero e h = e .0
-each-at lo hi (x ∷ xs) (suc i) e h = each-at lo hi xs i (e .1) (le-of-suc-le-suc h)
 
 -- ---- whole numbers
 whole-val : (n : ℕ) → n ≤ 2 ^ 24 → HasValue (ofNat n) false n 1
@@ -191,10 +182,3 @@ signed-step m n a x h i j =
       low = le-trans-at (minus32 (m + n)) (add binary32 (minus32 m) (minus32 n)) (add binary32 a x) (minus-add m n h) (add-mono (minus32 m) a (minus32 n) x ml p nl q (i .low) (j .low));
       high = le-trans-at (add binary32 a x) (add binary32 (ofNat m) (ofNat n)) (ofNat (m + n)) (add-mono a (ofNat m) x (ofNat n) p mh q nh (i .high) (j .high)) (whole-add m n h);
     }
-
-pub signed-sum : (b m : ℕ) (a : Float) (xs : List Float) → m + length xs * b ≤ 2 ^ 24 → In (minus32 m) (ofNat m) a → Each (minus32 b) (ofNat b) xs → In (minus32 (m + length xs * b)) (ofNat (m + length xs * b)) (sumFrom a xs)
-signed-sum b m a [] h i e = subst (λ (n : ℕ). In (minus32 n) (ofNat n) a) (sym (ap (λ (z : ℕ). m + z) (zero-mul b) ∙ add-zero m)) i
-signed-sum b m a (x ∷ xs) h i e =
-    let g : m + suc (length xs) * b ≡ m + b + length xs * b = regroup m (length xs) b in
-    subst (λ (n : ℕ). In (minus32 n) (ofNat n) (sumFrom (add binary32 a x) xs)) (sym g)
-    (signed-sum b (m + b) (add binary32 a x) xs (omega arith) (signed-step m b a x (omega arith) i (e .0)) (e .1))

@@ -3,7 +3,7 @@ use mathlib.Core.Path.{_≡_, sym, ap, _∙_, subst}
 use mathlib.Core.Bool.{true, false}
 use mathlib.Core.List.{List, [], _∷_, map}
 use Prim.Native.Nat.{ℕ, zero, suc, _+_, _*_, _^_, _≤_, _<_}
-use native.Mathlib.Nat.{le-trans, le-of-eq, add-zero, zero-add, suc-add, add-suc, mul-comm, mul-assoc, mul-right-comm, mul-left-comm, add-mul, zero-mul, mul-le-mul-left, mul-le-mul-right, le-of-mul-le-mul-right, mul-pos, suc-mul, eq-of-mul-eq-mul-right, not-suc-le-zero, le-of-suc-le-suc}
+use native.Mathlib.Nat.{add-zero, zero-add, suc-add, add-suc, mul-comm, mul-assoc, mul-right-comm, mul-left-comm, add-mul, zero-mul, mul-pos, suc-mul, eq-of-mul-eq-mul-right, not-suc-le-zero, le-of-suc-le-suc}
 use native.Mathlib.Omega.{arith}
 use lib.Dec.{T, ltb→lt}
 use lib.ListN.{length, getD}
@@ -148,25 +148,6 @@ module _ (s : Float) (u : T (fits binary32 s)) (q : T (positive s)) where
       let r = total-step n E G (val32 x) (val32 (div binary32 x s)) (2 ^ 149) (2 ^ 24) (val32 s * 2 ^ 23) (t .over, t .under) (h .over, h .under) in
       subst (λ (z : ℕ). Total z (exactSum (E + val32 x) xs) (exactSum (G + val32 (div binary32 x s)) (map (λ (y : Float). div binary32 y s) xs))) (suc-add n (length xs) ∙ sym (add-suc n (length xs)))
       (total-from K (suc n) (E + val32 x) (G + val32 (div binary32 x s)) xs k (record { over = r .0; under = r .1 }) (e .1) (f .1))
-
--- U ≤ 2 G and G ≤ 2 U, from both errors
-both-ends : (n E G S U : ℕ) → 0 < S → n ≤ 2 ^ 20 → n * 2 ^ 23 ≤ U → Near n E S → G * S * 2 ^ 24 ≤ E * U * 2 ^ 24 + E * U + n * (S * 2 ^ 23) → E * U * 2 ^ 24 ≤ G * S * 2 ^ 24 + E * U + n * (S * 2 ^ 23) → (U ≤ 2 * G) × (G ≤ 2 * U)
-both-ends n E G S U p h k i a b =
-    let m : E * n ≤ E * 2 ^ 20 = mul-le-mul-left E h in
-    let x : 4 * S ≤ 5 * E = omega (arith, i .over, i .under) in
-    let y : 3 * E ≤ 4 * S = omega (arith, i .over, i .under) in
-    let x' : 4 * S * U ≤ 5 * E * U = mul-le-mul-right U x in
-    let y' : 3 * E * U ≤ 4 * S * U = mul-le-mul-right U y in
-    let e₁ : 4 * S * U ≡ 4 * (S * U) = mul-assoc 4 S U in
-    let e₂ : 5 * E * U ≡ 5 * (E * U) = mul-assoc 5 E U in
-    let e₃ : 3 * E * U ≡ 3 * (E * U) = mul-assoc 3 E U in
-    let z : n * (S * 2 ^ 23) ≤ S * U = le-trans (le-of-eq (mul-left-comm n S (2 ^ 23))) (mul-le-mul-left S k) in
-    let c : S * U ≤ 2 * (G * S) = omega arith in
-    let d : G * S ≤ 2 * (S * U) = omega arith in
-    let c' : S * U ≡ U * S = mul-comm S U in
-    let d' : 2 * U * S ≡ 2 * (U * S) = mul-assoc 2 U S in
-    let g' : 2 * G * S ≡ 2 * (G * S) = mul-assoc 2 G S in
-    (le-of-mul-le-mul-right {k = S} (omega arith) p, le-of-mul-le-mul-right {k = S} (omega arith) p)
 
 -- ---- entry by entry
 pub atMost-at : (K : ℕ) (xs : List Float) (i : ℕ) → AllAtMost K xs → i < length xs → AtMost K (getD xs i nan)

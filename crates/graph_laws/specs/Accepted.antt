@@ -2,7 +2,7 @@
 use Prim.Native.Nat.{ℕ, suc, _*_, _≤_, _<_}
 use native.Mathlib.Omega.{arith}
 use mathlib.Core.Path.{_≡_, refl, sym, ap, _∙_, subst}
-use mathlib.Core.Bool.{Bool, true, false, _||_, true≢false}
+use mathlib.Core.Bool.{Bool, true, false, true≢false}
 use mathlib.Core.Option.{Option, none, some}
 use mathlib.Core.List.{List, [], _∷_, map}
 use lib.Dec.{leb, ltb}
@@ -10,15 +10,15 @@ use lib.ListN.{length}
 use Rattle.graph_laws.specs.Bools.{not-true, or-no, no-or, no-ltb, ltb-no, no-leb, leb-no}
 use Rattle.definition.specs.Lists.{mem}
 use Rattle.definition.specs.Settings.{Settings}
-use Rattle.definition.specs.FactorGraph.{Pair, Bale, Node, eqNode, markerNumbers, gradesOf, builtNodes, builtEdges, builtGraph}
-use Rattle.definition.specs.Refusals.{Buffers, leastProbability, greatestProbability, outside, tooMany, workNeeded, tooSmall, badTolerance, badEvidence, unknownPair, equalPairs, lowestPlaceFrom, lowestPlace, isAmong, repeatedPairs, tooManyGrades, Verdict, accepted, refused, orRefused, verdict}
+use Rattle.definition.specs.FactorGraph.{Pair, eqPair, Bale, Node, eqNode, markerNumbers, gradesOf, builtNodes, builtEdges, builtGraph}
+use Rattle.definition.specs.Refusals.{Buffers, leastProbability, greatestProbability, outside, tooMany, workNeeded, tooSmall, badTolerance, badEvidence, unknownPair, lowestPlaceFrom, lowestPlace, repeatedPairs, tooManyGrades, Verdict, accepted, refused, orRefused, verdict}
 use Rattle.definition.specs.PartAlone.{partAlone}
 use Rattle.graph_laws.specs.Lists.{All, All-mono, All-at, All-map-into, All-map-from}
 use Rattle.graph_laws.specs.Ranks.{NoDup, others}
 use Rattle.graph_laws.specs.Components.{Both, Holds}
 use Rattle.graph_laws.specs.Names.{Valid}
 use Rattle.graph_laws.specs.Locality.{Part, of-nodes, passes}
-use Rattle.graph_laws.specs.AloneChecks.{eqPair, eqPair-sound, eqPair-same, fewer-grades, fewer-markers, fewer-pairs, evidence-kept, pairs-once, counts-kept}
+use Rattle.graph_laws.specs.AloneChecks.{eqPair-sound, eqPair-same, fewer-grades, fewer-markers, fewer-pairs, evidence-kept, pairs-once, counts-kept}
 
 -- ---- the lowest place: there is none where no test is true
 
@@ -124,24 +124,19 @@ known-of b v =
     (λ q l. no-or (leb (b .grades) (q .grade)) (leb (length (b .markers)) (q .marker)) (leb-no _ _ (l .0)) (leb-no _ _ (l .1))) (b .pairs) v)
 
 -- no pair is given twice
-given-mem : (p : Pair) (qs : List Pair) → isAmong p qs ≡ mem eqPair p qs
-unfolding isAmong equalPairs
-given-mem p [] = refl
-given-mem p (q ∷ qs) = ap (λ (c : Bool). eqPair p q || c) (given-mem p qs)
-
 once-from : (before ps : List Pair) → All (λ c. c ≡ false) (repeatedPairs before ps) → NoDup eqPair ps × All (λ q. mem eqPair q before ≡ false) ps
 unfolding repeatedPairs
 once-from before [] h = (tt, tt)
 once-from before (p ∷ ps) h =
     let r = once-from (p ∷ before) ps (h .1) in (
       (not-true (mem eqPair p ps) (λ m. true≢false (sym (eqPair-same p) ∙ or-no _ _ (All-at eqPair eqPair-sound (λ q. mem eqPair q (p ∷ before) ≡ false) ps (r .1) p m) .0)), r .0),
-      (sym (given-mem p before) ∙ h .0, All-mono (λ q. mem eqPair q (p ∷ before) ≡ false) (λ q. mem eqPair q before ≡ false) (λ q n. or-no (eqPair q p) _ n .1) ps (r .1)),
+      (h .0, All-mono (λ q. mem eqPair q (p ∷ before) ≡ false) (λ q. mem eqPair q before ≡ false) (λ q n. or-no (eqPair q p) _ n .1) ps (r .1)),
     )
 
 from-once : (before ps : List Pair) → NoDup eqPair ps → All (λ q. mem eqPair q before ≡ false) ps → All (λ c. c ≡ false) (repeatedPairs before ps)
 unfolding repeatedPairs
 from-once before [] n h = tt
-from-once before (p ∷ ps) n h = (given-mem p before ∙ h .0, from-once (p ∷ before) ps (n .1) (both ps (others eqPair eqPair-sound eqPair-same p ps (n .0)) (h .1)))
+from-once before (p ∷ ps) n h = (h .0, from-once (p ∷ before) ps (n .1) (both ps (others eqPair eqPair-sound eqPair-same p ps (n .0)) (h .1)))
   where
     both : (qs : List Pair) → All (λ q. eqPair q p ≡ false) qs → All (λ q. mem eqPair q before ≡ false) qs → All (λ q. mem eqPair q (p ∷ before) ≡ false) qs
     both [] a c = tt
@@ -186,7 +181,7 @@ unfolding workNeeded
 less-work a b l = omega (arith, l .grades, l .markers, l .pairs)
 
 smaller-buffers : (f : Buffers) (a b : Bale) → Smaller a b → tooSmall f b ≡ false → tooSmall f a ≡ false
-unfolding tooSmall
+unfolding tooSmall workNeeded
 smaller-buffers f a b l h =
     let w = less-work a b l in
     let x5 = or-no _ _ h in

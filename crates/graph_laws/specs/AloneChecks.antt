@@ -1,6 +1,6 @@
 -- The part entered by itself passes each check that the whole bale passes: sizes, evidence, pairs given once, grades of a marker. (Check 6 is `valid-alone`.)
 use mathlib.Core.Path.{_≡_, sym, ap, _∙_, subst}
-use mathlib.Core.Bool.{Bool, true, _&&_}
+use mathlib.Core.Bool.{Bool, true}
 use mathlib.Core.List.{List, [], _∷_, map}
 use Prim.Native.Nat.{ℕ, zero, suc, _≤_, _<_}
 use native.Mathlib.Omega.{arith}
@@ -11,15 +11,12 @@ use Rattle.definition.specs.Lists.{mem, indexOf}
 use Rattle.graph_laws.specs.Lists.{All, upto, length-count, All-map-into, All-mono, All-both, All-filter, All-at, All-in, filter-holds}
 use Rattle.graph_laws.specs.Walk.{mem-map}
 use Rattle.graph_laws.specs.Ranks.{NoDup, index-inj, upto-below, filter-nodup, mem-upto}
-use Rattle.definition.specs.FactorGraph.{Evidence, noEvidence, Bale, Pair, Node, gradeNode, factorNode, eqNode, gradesOf, markerNumbers, builtNodes, builtEdges}
+use Rattle.definition.specs.FactorGraph.{Evidence, noEvidence, Bale, Pair, eqPair, Node, gradeNode, factorNode, eqNode, gradesOf, markerNumbers, builtNodes, builtEdges}
 use Rattle.definition.specs.PartAlone.{gradesIn, markersIn, pairsIn, renumbered, partAlone}
 use Rattle.graph_laws.specs.Components.{Holds, Both}
 use Rattle.graph_laws.specs.OneComponent.{filter-length}
 use Rattle.graph_laws.specs.Names.{Valid}
 use Rattle.graph_laws.specs.Renumbering.{of-grade, to-ms, pairs-tied, grades-renamed, new-markers}
-
-abbrev pub eqPair : Pair → Pair → Bool
-eqPair q r = eqb (q .grade) (r .grade) && eqb (q .marker) (r .marker)
 
 pub eqPair-sound : (q r : Pair) → eqPair q r ≡ true → q ≡ r
 eqPair-sound q r h =

@@ -14,12 +14,12 @@ use Rattle.definition.specs.Settings.{Settings}
 use Rattle.definition.specs.FactorGraph.{Bale, Node, gradeNode, factorNode, inputNode, treeNode, eqNode, Edge, markerNumbers, gradesOf, hasTree, builtNodes, builtEdges, builtGraph}
 use Rattle.definition.specs.Components.{otherEnd, incidentEdges, neighbours, SubgraphNode, Subgraph, subgraph, subgraphOf, componentsOf}
 use Rattle.definition.specs.Directions.{MessageNode, MessageGraph, messageNodesFrom, messageGraph, messageGraphOf}
-use Rattle.definition.specs.Run.{beginLoop, Ending, limit, settled, empty, loop, run}
+use Rattle.definition.specs.Run.{beginLoop, Ending, limit, settled, empty, run}
 use Rattle.definition.specs.Sweeps.{opening}
 use Rattle.definition.specs.Answer.{Belief, marginal, beliefsAmong, PartAnswer, partAnswer, answersOf, answersFrom, answer, endingNumber, answeredBeliefs, beliefNumbers, beliefFloats, endingNumbers, endingFloats}
 use Rattle.definition.specs.Refusals.{Buffers, accepted, verdict}
-use Rattle.graph_laws.specs.Lists.{All, upto, All-append, All-filter, All-every, All-mono, All-at}
-use Rattle.graph_laws.specs.Ranks.{NoDup, mem-upto, upto-below}
+use Rattle.graph_laws.specs.Lists.{All, upto, concat-map-append, All-append, All-filter, All-every, All-mono, All-at}
+use Rattle.graph_laws.specs.Ranks.{NoDup, mem-upto, upto-below, All-concat-into}
 use Rattle.graph_laws.specs.Components.{Holds, Both, closed-of-both}
 use Rattle.graph_laws.specs.Partition.{part-nodup, components-nodup}
 use Rattle.graph_laws.specs.Names.{eqNode-sound, eqNode-same, Valid, built-inside, node-grade, node-factor, node-input, node-tree}
@@ -240,6 +240,10 @@ unfolding beliefFloats
 floats-length [] h = refl
 floats-length (x ∷ xs) h = omega (arith, length-append (x .value) (beliefFloats xs), h .0, floats-length xs (h .1))
 
+pub floats-append : (xs ys : List Belief) → beliefFloats (xs ++ ys) ≡ beliefFloats xs ++ beliefFloats ys
+unfolding beliefFloats
+floats-append = concat-map-append (λ (x : Belief). x .value)
+
 pub endings-length : (qs : List PartAnswer) → length (endingNumbers qs) ≡ 4 * length qs
 unfolding endingNumbers
 endings-length [] = refl
@@ -255,10 +259,9 @@ All-concat : {A : Type 0} (P : A → Type 0) (ps : List (List A)) → All (All P
 All-concat P [] h = tt
 All-concat P (p ∷ ps) h = All-append P p (concat ps) (h .0) (All-concat P ps (h .1))
 
-beliefs-each : (P : Belief → Type 0) (qs : List PartAnswer) → All (λ q. All P (q .beliefs)) qs → All P (answeredBeliefs qs)
+pub beliefs-each : (P : Belief → Type 0) (qs : List PartAnswer) → All (λ q. All P (q .beliefs)) qs → All P (answeredBeliefs qs)
 unfolding answeredBeliefs
-beliefs-each P [] h = tt
-beliefs-each P (q ∷ qs) h = All-append P (q .beliefs) (answeredBeliefs qs) (h .0) (beliefs-each P qs (h .1))
+beliefs-each P = All-concat-into P (λ (q : PartAnswer). q .beliefs)
 
 endings-each : (P : ℕ → Type 0) (qs : List PartAnswer) → All (λ q. P (q .number) × P (endingNumber (q .ending)) × P (q .steps) × P (length (q .beliefs))) qs → All P (endingNumbers qs)
 unfolding endingNumbers
@@ -280,10 +283,10 @@ beliefs-within n (q ∷ qs) l =
     (omega arith, beliefs-within n qs (omega arith))
 
 -- parts that each have a belief are no more than the beliefs
-components-within : (qs : List PartAnswer) → All (λ q. 1 ≤ length (q .beliefs)) qs → length qs ≤ length (answeredBeliefs qs)
+parts-within : (qs : List PartAnswer) → All (λ q. 1 ≤ length (q .beliefs)) qs → length qs ≤ length (answeredBeliefs qs)
 unfolding answeredBeliefs
-components-within [] h = omega arith
-components-within (q ∷ qs) h = omega (arith, length-append (q .beliefs) (answeredBeliefs qs), h .0, components-within qs (h .1))
+parts-within [] h = omega arith
+parts-within (q ∷ qs) h = omega (arith, length-append (q .beliefs) (answeredBeliefs qs), h .0, parts-within qs (h .1))
 
 -- ---- what the parts yield
 
@@ -422,7 +425,7 @@ module _ (b : Bale) (ok : Valid b) where
         answer-sizes n p is l = omega (arith, has-grade b ok p is l, numbers-length (partAnswer s n p (messageGraphOf b p) .beliefs), ap length (part-grades s b n p))
 
     pub answer-few : length (answer s b) ≤ b .grades
-    answer-few = omega (arith, components-within (answer s b) answer-graded, beliefs-few)
+    answer-few = omega (arith, parts-within (answer s b) answer-graded, beliefs-few)
 
 -- ---- of an accepted bale
 

@@ -38,7 +38,7 @@ pub record Room (f : Buffers) (b : Bale) : Type 0 where
   pub endingFloats : b .grades ≤ f .endingFloats
 
 pub room : (f : Buffers) (b : Bale) → tooSmall f b ≡ false → Room f b
-unfolding tooSmall
+unfolding tooSmall workNeeded
 room f b h =
     let x5 = or-no _ _ h in
     let x4 = or-no _ _ (x5 .0) in
@@ -82,7 +82,7 @@ result-lengths s b l (refused n p) h =
 -- ---- numbers that fit 32 bits stay so
 
 -- every number of the buffers fits 32 bits
-pub record Invariant (l : Lent) : Type 0 where
+pub record NumbersFit (l : Lent) : Type 0 where
   pub workNumbers : All (λ n. n < 2 ^ 32) (l .workNumbers)
   pub beliefNumbers : All (λ n. n < 2 ^ 32) (l .beliefNumbers)
   pub endingNumbers : All (λ n. n < 2 ^ 32) (l .endingNumbers)
@@ -90,7 +90,7 @@ pub record Invariant (l : Lent) : Type 0 where
 All-over : {A : Type 0} (P : A → Type 0) (xs m : List A) → All P xs → All P m → All P (overwrite xs m)
 All-over P xs m h k = All-append P xs (drop (length xs) m) h (All-drop P (length xs) m k)
 
-result-fits : (s : Settings) (b : Bale) (l : Lent) (v : Verdict) → verdict s (sizesOf l) b ≡ v → Invariant l → Invariant (resultOf v s b l .lent)
+result-fits : (s : Settings) (b : Bale) (l : Lent) (v : Verdict) → verdict s (sizesOf l) b ≡ v → NumbersFit l → NumbersFit (resultOf v s b l .lent)
 unfolding resultOf answeredBy
 result-fits s b l (refused n p) h x = x
 result-fits s b l accepted h x =
@@ -110,7 +110,7 @@ module _ (s : Settings) (g : ℕ) (es : List Float) (ps : List ℕ) (l : Lent) w
   call-lengths = result-lengths s (baleOf g es ps) l (verdict s (sizesOf l) (baleOf g es ps)) refl
 
   -- and numbers that fit 32 bits give numbers that do
-  pub call-fits : Invariant l → Invariant (call s g es ps l .lent)
+  pub call-fits : NumbersFit l → NumbersFit (call s g es ps l .lent)
   unfolding call
   call-fits = result-fits s (baleOf g es ps) l (verdict s (sizesOf l) (baleOf g es ps)) refl
 

@@ -36,8 +36,8 @@ module _ {A : Type 0} (eq : A → A → Bool) where
   Holds D v = mem eq v D ≡ true
 
 module _ {A : Type 0} (eq : A → A → Bool) (sound : (a b : A) → eq a b ≡ true → a ≡ b) (same : (a : A) → eq a a ≡ true) where
-  mem-zipWith : (D : List A) (a b : A) → eq a b ≡ true → mem eq a D ≡ mem eq b D
-  mem-zipWith D a b e = ap (λ (x : A). mem eq x D) (sound a b e)
+  mem-equal : (D : List A) (a b : A) → eq a b ≡ true → mem eq a D ≡ mem eq b D
+  mem-equal D a b e = ap (λ (x : A). mem eq x D) (sound a b e)
 
   both-of-closed : (D : List A) (es : List (Edge A)) → ((v : A) → Holds eq D v → All (Holds eq D) (neighbours eq es v)) → All (Both eq D) es
   both-of-closed D [] h = tt
@@ -60,7 +60,7 @@ module _ {A : Type 0} (eq : A → A → Bool) (sound : (a b : A) → eq a b ≡ 
           (h (e .node2) m))
         where
           go : (b : Bool) → eq (e .node2) (e .node1) ≡ b → Holds eq D (cond b (e .node2) (e .node1)) → Holds eq D (e .node1)
-          go true q n = sym (mem-zipWith D (e .node2) (e .node1) q) ∙ m
+          go true q n = sym (mem-equal D (e .node2) (e .node1) q) ∙ m
           go false q n = n
 
   pub closed-of-both : (D : List A) (es : List (Edge A)) → All (Both eq D) es → (v : A) → Holds eq D v → All (Holds eq D) (neighbours eq es v)
@@ -72,8 +72,8 @@ module _ {A : Type 0} (eq : A → A → Bool) (sound : (a b : A) → eq a b ≡ 
       ends t = go (eq v (e .node1)) refl t
         where
           go : (b : Bool) → eq v (e .node1) ≡ b → (b || eq v (e .node2)) ≡ true → Holds eq D (cond b (e .node2) (e .node1))
-          go true q s = sym (h .0) ∙ sym (mem-zipWith D v (e .node1) q) ∙ m
-          go false q s = h .0 ∙ sym (mem-zipWith D v (e .node2) s) ∙ m
+          go true q s = sym (h .0) ∙ sym (mem-equal D v (e .node1) q) ∙ m
+          go false q s = h .0 ∙ sym (mem-equal D v (e .node2) s) ∙ m
 
   module _ (G : Graph A) (inside : All (λ e. Holds eq (G .nodes) (e .node1) × Holds eq (G .nodes) (e .node2)) (G .edges)) where
     pub neighbours-inside : (v : A) → All (Holds eq (G .nodes)) (neighbours eq (G .edges) v)
@@ -231,9 +231,9 @@ module _ {A : Type 0} (eq : A → A → Bool) (sound : (a b : A) → eq a b ≡ 
       go : (a b : Bool) → eq v (e .node1) ≡ a → eq v (e .node2) ≡ b → All (λ f. Holds eq p (f .node1) × Holds eq p (f .node2)) (incidentEdges eq es v)
           → All (λ f. Holds eq p (f .node1) × Holds eq p (f .node2)) (consIf (a || b) e (incidentEdges eq es v))
       go true b q r k =
-          let one : Holds eq p (e .node1) = sym (mem-zipWith eq sound same p v (e .node1) q) ∙ m in
+          let one : Holds eq p (e .node1) = sym (mem-equal eq sound same p v (e .node1) q) ∙ m in
           ((one, sym (h .0) ∙ one), k)
       go false true q r k =
-          let two : Holds eq p (e .node2) = sym (mem-zipWith eq sound same p v (e .node2) r) ∙ m in
+          let two : Holds eq p (e .node2) = sym (mem-equal eq sound same p v (e .node2) r) ∙ m in
           ((h .0 ∙ two, two), k)
       go false false q r k = k

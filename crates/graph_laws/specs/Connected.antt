@@ -9,11 +9,11 @@ use lib.ListN.{length, getElem?}
 use Rattle.graph_laws.specs.Bools.{or-cases, or-left, or-right}
 use Rattle.definition.specs.Lists.{mem, consIf, concat}
 use Rattle.definition.specs.FactorGraph.{Edge, Graph, Bale, Node, eqNode, builtGraph}
-use Rattle.definition.specs.Components.{isIncident, otherEnd, incidentEdges, neighbours, Search, isVisited, visit, visitAll, popNode, walkStep, walk, walkStart, componentFrom, components, componentsOf}
+use Rattle.definition.specs.Components.{isIncident, otherEnd, incidentEdges, neighbours, Search, isVisited, visit, visitAll, popNode, walkStep, walk, walkStart, componentFrom, componentsOf}
 use Rattle.graph_laws.specs.Lists.{All, All-mono, All-at, All-in}
 use Rattle.graph_laws.specs.Walk.{walk-within}
 use Rattle.graph_laws.specs.Reach.{mem-append}
-use Rattle.graph_laws.specs.Components.{Holds, Both, closed-of-both, IsComponent, components-are}
+use Rattle.graph_laws.specs.Components.{Holds, Both, closed-of-both, IsComponent}
 use Rattle.graph_laws.specs.Partition.{components-all}
 use Rattle.graph_laws.specs.Names.{eqNode-sound, eqNode-same, Valid, built-inside}
 use Rattle.graph_laws.specs.Locality.{Part, all-components}
@@ -145,21 +145,11 @@ module _ {A : Type 0} (eq : A → A → Bool) (sound : (a b : A) → eq a b ≡ 
       at : (x : A) → Holds eq p x → Reaches eq (G .edges) (c .root) x
       at x k = All-at eq sound (Reaches eq (G .edges) (c .root)) p (c .reached) x k
 
-  module _ (G : Graph A) (inside : All (λ e. Holds eq (G .nodes) (e .node1) × Holds eq (G .nodes) (e .node2)) (G .edges)) where
-    pub components-connected : All (Connected eq (G .edges)) (components eq G)
-    components-connected = All-mono (IsComponent eq G) (Connected eq (G .edges)) (part-connected eq same G) (components eq G) (components-are eq sound same G inside)
-
 -- ---- of a bale
 
 -- every part of every valid bale is connected
 pub bale-connected : (b : Bale) → Valid b → All (Connected eqNode (builtGraph b .edges)) (componentsOf b)
 bale-connected b valid = All-mono (Part b valid) (Connected eqNode (builtGraph b .edges)) (part-connected eqNode eqNode-same (builtGraph b)) (componentsOf b) (all-components b valid)
-
--- two nodes are in one part exactly if one reaches the other
-pub bale-part-of : (b : Bale) (valid : Valid b) → All (λ p. (u w : Node) → Holds eqNode p u → Holds eqNode p w ↔ Reaches eqNode (builtGraph b .edges) u w) (componentsOf b)
-bale-part-of b valid =
-    All-mono (Part b valid) (λ p. (u w : Node) → Holds eqNode p u → Holds eqNode p w ↔ Reaches eqNode (builtGraph b .edges) u w)
-    (part-of eqNode eqNode-sound eqNode-same (builtGraph b)) (componentsOf b) (all-components b valid)
 
 -- a thing of the joined lists is in one of them
 in-one : {A : Type 0} (eq : A → A → Bool) (a : A) (ps : List (List A)) → mem eq a (concat ps) ≡ true → (n : ℕ) × (p : List A) × (getElem? ps n ≡ some p) × (mem eq a p ≡ true)

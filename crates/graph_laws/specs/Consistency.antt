@@ -10,7 +10,7 @@ use lib.Dec.{T, eqb, ltb, ltb→lt, nltb→le}
 use Rattle.graph_laws.specs.Bools.{not-true, or-left, or-right, and-left, and-right}
 use Rattle.definition.specs.Lists.{filter, concat, mem, indexOf}
 use Rattle.definition.specs.Settings.{Settings}
-use Rattle.definition.specs.FactorGraph.{Bale, Node, eqNode, Edge, eqEdge, builtGraph, markerNumbers, gradesOf, markerEdges, builtEdges, Kind, kindOf}
+use Rattle.definition.specs.FactorGraph.{Bale, Node, eqNode, Edge, eqEdge, builtGraph, markerNumbers, gradesOf, markerEdges, builtEdges, Kind, kindOf, eqPair}
 use Rattle.definition.specs.Components.{Subgraph, SubgraphNode, SubgraphEdge, isIncident, otherEnd, incidentEdges, componentEdges, subgraphNode, subgraphEdge, subgraph, subgraphOf}
 use Rattle.definition.specs.Directions.{Direction, MessageNode, MessageGraph, noEdge, edgeAt, messageGraph, messageGraphOf, nodeAt, directionAt}
 use Rattle.definition.specs.Refusals.{Buffers}
@@ -23,7 +23,6 @@ use Rattle.graph_laws.specs.Names.{eqNode-sound, eqNode-same, Valid, bui
 use Rattle.graph_laws.specs.Locality.{Part}
 use Rattle.graph_laws.specs.Distinct.{edges-nodup}
 use Rattle.graph_laws.specs.Incident.{toGrade, ofGrade, markerEdges-all}
-use Rattle.graph_laws.specs.AloneChecks.{eqPair}
 use Rattle.graph_laws.specs.Accepted.{Passes, passes-all, valid, pairs-apart}
 use Rattle.graph_laws.specs.LocalAnswer.{is-part}
 use Rattle.claims.specs.Parts.{AcceptedPart, noNode, subgraphNodeAt, degreeOf, edgeNumberAt}
@@ -95,27 +94,13 @@ pub record Consistent (g : Subgraph) (t : MessageGraph) : Type 0 where
   pub direction : (d : ℕ) → d < length (t .directions) → DirectionFits g t d (directionAt t d)
   pub edge : (k : ℕ) → k < length (g .edges) → EdgeFits g t k (edgeAt g k)
 
--- so no two positions have the same direction, and no two send by the same one
+-- so no two positions send by the same direction
 module _ (g : Subgraph) (t : MessageGraph) (C : Consistent g t) (n i m j : ℕ) (nl : n < length (g .nodes)) (il : i < degreeOf g n) (ml : m < length (g .nodes)) (jl : j < degreeOf g m) where
-  pub in-once : incomingAt t n i ≡ incomingAt t m j → (n ≡ m) × (i ≡ j)
-  in-once e = (
-    sym (C .position n i nl il .in-end) ∙ ap (λ (d : ℕ). directionAt t d .end) e ∙ C .position m j ml jl .in-end,
-    sym (C .position n i nl il .in-startInEnd) ∙ ap (λ (d : ℕ). directionAt t d .startInEnd) e ∙ C .position m j ml jl .in-startInEnd,
-  )
-
   pub out-once : outgoingAt t n i ≡ outgoingAt t m j → (n ≡ m) × (i ≡ j)
   out-once e = (
     sym (C .position n i nl il .out-start) ∙ ap (λ (d : ℕ). directionAt t d .start) e ∙ C .position m j ml jl .out-start,
     sym (C .position n i nl il .out-endInStart) ∙ ap (λ (d : ℕ). directionAt t d .endInStart) e ∙ C .position m j ml jl .out-endInStart,
   )
-
--- and the direction by which a node sends is the one by which its neighbour gets
-pub out-in : (g : Subgraph) (t : MessageGraph) (C : Consistent g t) (n i : ℕ) → n < length (g .nodes) → i < degreeOf g n
-    → outgoingAt t n i ≡ incomingAt t (directionAt t (incomingAt t n i) .start) (directionAt t (incomingAt t n i) .endInStart)
-out-in g t C n i l j =
-    let P : PositionFits g t n i = C .position n i l j in
-    sym (C .direction (outgoingAt t n i) (P .out-there) .is-in) ∙ ap (λ (m : ℕ). incomingAt t m (directionAt t (outgoingAt t n i) .startInEnd)) (P .reversed .end)
-    ∙ ap (λ (k : ℕ). incomingAt t (directionAt t (incomingAt t n i) .start) k) (P .reversed .startInEnd)
 
 -- ---- by names: a part that has both ends or neither of each edge, no node twice, no edge twice and no edge from a node to itself
 
@@ -221,8 +206,8 @@ module _ {A : Type 0} (eq : A → A → Bool) (sound : (a b : A) → eq a b ≡ 
       ap (λ (x : MessageNode). getD (x .outgoing) (indexOf E e (inc v)) 0) (messageNode-at eq sound same es p both once kind v h)
       ∙ getD-map-index E E-sound E-same (out eq sound same es p both once kind v) 0 e (inc v) m
 
-  outMessage-is : (v : A) (e : Edge A) → Holds eq p v → In v e → directionAt N (outgoingAt N (indexOf eq v p) (indexOf E e (inc v))) ≡ Back v e
-  outMessage-is v e h m =
+  outgoing-is : (v : A) (e : Edge A) → Holds eq p v → In v e → directionAt N (outgoingAt N (indexOf eq v p) (indexOf E e (inc v))) ≡ Back v e
+  outgoing-is v e h m =
       ap (directionAt N) (out-is v e h m) ∙ direction-out eq sound same es p both once kind v e h m
       ∙ ap (λ (u : A). record { start = indexOf eq u p; endInStart = indexOf E e (inc u); end = indexOf eq (otherEnd eq v e) p; startInEnd = indexOf E e (inc (otherEnd eq v e)); messageLength = e .messageLength }) (there-and-back v e m)
 
@@ -249,7 +234,7 @@ module _ {A : Type 0} (eq : A → A → Bool) (sound : (a b : A) → eq a b ≡ 
   place-fits : (v : A) (e : Edge A) → Holds eq p v → In v e → PositionFits L N (indexOf eq v p) (indexOf E e (inc v))
   place-fits v e h m =
       let a = in-is v e h m in
-      let b = outMessage-is v e h m in
+      let b = outgoing-is v e h m in
       record {
         in-there = subst (λ (x : MessageNode). x .firstIncoming + indexOf E e (inc v) < length (N .directions)) (sym (messageNode-at eq sound same es p both once kind v h)) (in-lt v e h m);
         in-end = ap (λ (w : Direction). w .end) a;
@@ -274,7 +259,7 @@ module _ {A : Type 0} (eq : A → A → Bool) (sound : (a b : A) → eq a b ≡ 
         is-in = ap (λ (x : MessageNode). x .firstIncoming + indexOf E e (inc v)) (messageNode-at eq sound same es p both once kind v h);
         is-out = out-is (otherEnd eq v e) e k l ∙ ap (λ (u : A). Off p u + indexOf E e (inc u)) (there-and-back v e m);
         back-there = out-lt v e h m;
-        back = subst (Reversed (Dir v e)) (sym (outMessage-is v e h m)) (turned-dirs v e);
+        back = subst (Reversed (Dir v e)) (sym (outgoing-is v e h m)) (turned-dirs v e);
       }
 
   edge-fits : (e : Edge A) → mem E e es ≡ true → mem E e ls ≡ true → Holds eq p (e .node1) → Holds eq p (e .node2) → EdgeFits L N (indexOf E e ls) (subgraphEdge eq es p e)

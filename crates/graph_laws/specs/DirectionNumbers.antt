@@ -8,7 +8,7 @@ use Rattle.definition.specs.Components.{Subgraph, SubgraphNode}
 use Rattle.definition.specs.Directions.{Direction, MessageNode, noMessageNode, noDirection, edgeAt, directionTo, directionsTo, firstsIncoming, directionFrom, messageNodesFrom, messageGraph, nodeAt, directionAt}
 use Rattle.graph_laws.specs.ByNames.{getD-front, getD-back}
 use Rattle.claims.specs.Parts.{noNode, subgraphNodeAt, degreeOf, edgeNumberAt}
-use Rattle.graph_laws.specs.Consistency.{incomingAt, outgoingAt}
+use Rattle.graph_laws.specs.Consistency.{incomingAt}
 
 pub getD-mapped : {X Y : Type 0} (f : X → Y) (xs : List X) (i : ℕ) (e : X) (d : Y) → i < length xs → getD (map f xs) i d ≡ f (getD xs i e)
 getD-mapped f [] i e d h = absurd (let z : ⊥ = omega arith in z)
@@ -109,11 +109,6 @@ module _ (g : Subgraph) where
     unfolding messageGraph
     in-inward i j =
         ap (λ (m : ℕ). directionAt (messageGraph g) (m + i)) first-is ∙ inward-from 0 (g .nodes) n i l j ∙ ap (λ (m : ℕ). directionTo m (edgeAt g (edgeNumberAt g n i))) (let z : 0 + n ≡ n = omega arith in z)
-
-    pub out-outward : (i : ℕ) → i < degreeOf g n → outgoingAt (messageGraph g) n i ≡ directionFrom (firstsIncoming 0 (g .nodes)) n (edgeAt g (edgeNumberAt g n i))
-    out-outward i j =
-        ap (λ (x : MessageNode). getD (x .outgoing) i 0) messageNode-is ∙ getD-mapped (λ (e : ℕ). directionFrom (firstsIncoming 0 (g .nodes)) (0 + n) (edgeAt g e)) (subgraphNodeAt g n .edges) i 0 0 j
-        ∙ ap (λ (m : ℕ). directionFrom (firstsIncoming 0 (g .nodes)) m (edgeAt g (edgeNumberAt g n i))) (let z : 0 + n ≡ n = omega arith in z)
 
   -- a running total
   pub first-next : (n : ℕ) → suc n < length (g .nodes) → nodeAt (messageGraph g) (suc n) .firstIncoming ≡ nodeAt (messageGraph g) n .firstIncoming + degreeOf g n

@@ -12,8 +12,8 @@ use Rattle.graph_laws.specs.Reach.{mem-append}
 use Rattle.graph_laws.specs.Ranks.{NoDup, mem-none, filter-nodup, upto-nodup, All-concat-into}
 use Rattle.graph_laws.specs.Partition.{nodup-append}
 use Rattle.graph_laws.specs.Positions.{eqEdge-sound, eqEdge-same}
-use Rattle.graph_laws.specs.AloneChecks.{eqPair, eqPair-sound, eqPair-same, nodup-map}
-use Rattle.definition.specs.FactorGraph.{Edge, Bale, Pair, Node, gradeNode, factorNode, inputNode, treeNode, eqNode, eqEdge, gradesOf, hasTree, edge, markerEdges, markerNumbers, builtNodes, builtEdges}
+use Rattle.graph_laws.specs.AloneChecks.{eqPair-sound, eqPair-same, nodup-map}
+use Rattle.definition.specs.FactorGraph.{Edge, Bale, Pair, eqPair, Node, gradeNode, factorNode, inputNode, treeNode, eqNode, eqEdge, gradesOf, hasTree, edge, markerEdges, markerNumbers, builtNodes, builtEdges}
 use Rattle.graph_laws.specs.Names.{eqNode-sound, eqNode-same}
 
 -- runs of names

@@ -6,7 +6,7 @@ use native.Mathlib.Omega.{arith}
 use mathlib.Core.Path.{_≡_, refl, sym, ap, _∙_, subst}
 use mathlib.Core.Bool.{Bool, true, false}
 use mathlib.Core.Option.{Option, none, some}
-use mathlib.Core.List.{List, [], _∷_, _++_, append-assoc}
+use mathlib.Core.List.{List, [], _∷_, _++_}
 use lib.Ieee.{lt}
 use lib.ListN.{replicate}
 use Rattle.claims.specs.Parts.{Present}
@@ -16,16 +16,6 @@ use Rattle.definition.specs.Directions.{MessageGraph}
 use Rattle.definition.specs.Run.{State, scheduledStep, beginLoop, Event, stepped, applyEvent, stateAfter, openingAndSweeps, events, Ending, limit, settled, empty, Ended, loop, run}
 use Rattle.definition.specs.Priorities.{Highest, highestPriority}
 use Rattle.definition.specs.Sweeps.{opening}
-
--- ---- the list: a longer run's begins with a shorter one's
-
-replicate-more : {A : Type 0} (m n : ℕ) (x : A) → replicate (m + n) x ≡ replicate m x ++ replicate n x
-replicate-more zero n x = ap (λ (k : ℕ). replicate k x) (zero-add n)
-replicate-more (suc m) n x = ap (λ (k : ℕ). replicate k x) (suc-add m n) ∙ ap (λ l. x ∷ l) (replicate-more m n x)
-
-pub events-more : (m n : ℕ) → events (m + n) ≡ events m ++ replicate n stepped
-unfolding events
-events-more m n = ap (λ (l : List Event). openingAndSweeps ++ l) (replicate-more m n stepped) ∙ sym (append-assoc openingAndSweeps (replicate m stepped) (replicate n stepped))
 
 -- ---- the loop
 

@@ -1,6 +1,6 @@
--- What a run reads by number is there: after any events that begin with the opening, what waits in the queue is a direction, the nodes to be copied are nodes,
--- a node's outward directions are directions and its neighbours are nodes.
-use Prim.Native.Nat.{ℕ, suc, _<_}
+-- What a run reads by number is there: after any events that begin with the opening, what waits in the queue is a direction, the nodes to be copied are nodes
+-- and a node's neighbours are nodes.
+use Prim.Native.Nat.{ℕ, _<_}
 use native.Mathlib.Omega.{arith}
 use mathlib.Core.Path.{_≡_, refl}
 use mathlib.Core.Bool.{Bool, true, false}
@@ -14,12 +14,12 @@ use Rattle.definition.specs.FactorGraph.{isTree}
 use Rattle.definition.specs.Components.{Subgraph}
 use Rattle.definition.specs.Directions.{Direction, noDirection, MessageGraph, nodeAt, directionAt}
 use Rattle.definition.specs.Sweeps.{Store, opening, sweep}
-use Rattle.definition.specs.Run.{State, beginLoop, MessageUpdate, updateSingle, neighbourNumbers, updateTree, updateMessage, otherOutgoing, scheduledStep, Event, opened, swept, stepped, applyEvent, stateAfter}
+use Rattle.definition.specs.Run.{State, beginLoop, MessageUpdate, updateSingle, neighbourNumbers, updateTree, updateMessage, scheduledStep, Event, opened, swept, stepped, applyEvent, stateAfter}
 use Rattle.definition.specs.Priorities.{Highest, highestPriority}
-use Rattle.graph_laws.specs.Lists.{All, All-append, All-map-into, All-take, All-drop}
+use Rattle.graph_laws.specs.Lists.{All, All-map-into, All-take, All-drop}
 use Rattle.graph_laws.specs.Ranks.{upto-below}
 use Rattle.graph_laws.specs.Places.{All-numbered}
-use Rattle.graph_laws.specs.Consistency.{NodeFits, DirectionFits, Consistent}
+use Rattle.graph_laws.specs.Consistency.{DirectionFits, Consistent}
 use Rattle.graph_laws.specs.MessageCounts.{Counts, opening-counts, begin-counts, applyEvent-counts, counted}
 use Rattle.graph_laws.specs.Highest.{IsHighest, top-highest, in-range}
 
@@ -37,17 +37,6 @@ module _ (g : Subgraph) (t : MessageGraph) (C : Consistent g t) where
 
   abbrev Way : ℕ → Type 0
   Way d = d < length (t .directions)
-
-  -- a node's outward directions, all of them and all but one
-  pub outs-there : (n : ℕ) → n < length (g .nodes) → All Way (nodeAt t n .outgoing)
-  outs-there n l =
-      let f : NodeFits g t n = C .node n l in
-      All-numbered Way 0 (nodeAt t n .outgoing) (λ i j. C .position n i l (omega (arith, f .outgoing)) .out-there)
-
-  pub others-there : (n i : ℕ) → n < length (g .nodes) → All Way (otherOutgoing i (nodeAt t n .outgoing))
-  unfolding otherOutgoing
-  others-there n i l =
-      All-append Way (take i (nodeAt t n .outgoing)) (drop (suc i) (nodeAt t n .outgoing)) (All-take Way i (nodeAt t n .outgoing) (outs-there n l)) (All-drop Way (suc i) (nodeAt t n .outgoing) (outs-there n l))
 
   -- a node's neighbours
   starts : All (λ (w : Direction). There (w .start)) (t .directions)

@@ -9,11 +9,11 @@ use lib.ListN.{length, length-map, length-append}
 use lib.Dec.{eqb}
 use Rattle.graph_laws.specs.Bools.{not-true, eqb-sound, eqb-same}
 use Rattle.definition.specs.Lists.{concat, mem, consIf, filter}
-use Rattle.definition.specs.FactorGraph.{Bale, Node, gradeNode, factorNode, inputNode, treeNode, eqNode, Edge, edge, markerNumbers, gradesOf, hasTree, markerEdges, builtEdges}
+use Rattle.definition.specs.FactorGraph.{Bale, Node, gradeNode, factorNode, inputNode, treeNode, eqNode, Edge, edge, markerNumbers, gradesOf, hasTree, markerEdges, builtEdges, eqPair}
 use Rattle.definition.specs.Components.{isIncident, incidentEdges}
 use Rattle.graph_laws.specs.Lists.{All, All-append, All-map-into, All-every, All-in, filter-append, filter-none, filter-every, filter-map, append-none}
 use Rattle.graph_laws.specs.Ranks.{NoDup, filter-concat, upto-nodup}
-use Rattle.graph_laws.specs.AloneChecks.{eqPair, length-upto}
+use Rattle.graph_laws.specs.AloneChecks.{length-upto}
 use Rattle.graph_laws.specs.Distinct.{grades-nodup}
 
 -- the four sorts of edges

@@ -21,9 +21,9 @@ pub length-normalize : (l : List Float) → length (normalize l) ≡ length l
 unfolding normalize
 length-normalize l = length-map l _
 
-pub length-avoidUnderflow : (l : List Float) → length (avoidUnderflowAll l) ≡ length l
+pub length-avoidUnderflowAll : (l : List Float) → length (avoidUnderflowAll l) ≡ length l
 unfolding avoidUnderflowAll
-length-avoidUnderflow l = length-map l _
+length-avoidUnderflowAll l = length-map l _
 
 length-cpdTable : (s : Settings) (d : ℕ) → length (cpdTable s d) ≡ d
 unfolding cpdTable cpdRows
@@ -92,14 +92,14 @@ long-likelihoods : (p k : ℕ) (l : List Float) (js : List (List Float)) → Lon
 unfolding treeLayers
 long-likelihoods p k l js h = long-likelihoodsBelow k _ js h
 
-long-firstLayer : (ms : List Message) (n : ℕ) → Long 2 ms → Long 2 (map normalize (ms ++ replicate n (binary oneᶠ zeroᶠ)))
-long-firstLayer [] zero h = tt
-long-firstLayer [] (suc n) h = (length-normalize _, long-firstLayer [] n tt)
-long-firstLayer (m ∷ ms) n h = (length-normalize m ∙ h .0, long-firstLayer ms n (h .1))
+long-layer : (ms : List Message) (n : ℕ) → Long 2 ms → Long 2 (map normalize (ms ++ replicate n (binary oneᶠ zeroᶠ)))
+long-layer [] zero h = tt
+long-layer [] (suc n) h = (length-normalize _, long-layer [] n tt)
+long-layer (m ∷ ms) n h = (length-normalize m ∙ h .0, long-layer ms n (h .1))
 
 long-of-firstLayer : (ms : List Message) → Long 2 ms → Long 2 (firstLayer ms)
 unfolding firstLayer
-long-of-firstLayer ms g = long-firstLayer ms (2 ^ logLength (length ms) - length ms) g
+long-of-firstLayer ms g = long-layer ms (2 ^ logLength (length ms) - length ms) g
 
 pub length-firstLayer : (ms : List Message) → length (firstLayer ms) ≡ 2 ^ logLength (length ms)
 unfolding firstLayer
@@ -108,13 +108,13 @@ length-firstLayer ms = simp (length-map, length-append, length-replicate) (omega
 long-take : (n : ℕ) (ls : List (List Float)) → Long 2 ls → Long 2 (map (λ (l : List Float). avoidUnderflowAll (take 2 l)) (take n ls))
 long-take zero ls h = tt
 long-take (suc n) [] h = tt
-long-take (suc n) (l ∷ ls) h = (length-avoidUnderflow _ ∙ length-take 2 l ∙ omega (arith, h .0), long-take n ls (h .1))
+long-take (suc n) (l ∷ ls) h = (length-avoidUnderflowAll _ ∙ length-take 2 l ∙ omega (arith, h .0), long-take n ls (h .1))
 
 -- A tree of two grades or more sends its factor one entry more than it has grades, and each grade two.
 pub treeShape : (f : Message) (ms : List Message) → 2 ≤ length ms → Long 2 ms →
     (length (avoidUnderflowAll (take (suc (length ms)) (treeLayers (logLength (length ms)) (normalize f) (firstLayer ms) .root))) ≡ suc (length ms))
     × Long 2 (map (λ (l : List Float). avoidUnderflowAll (take 2 l)) (take (length ms) (treeLayers (logLength (length ms)) (normalize f) (firstLayer ms) .likelihoods)))
-treeShape f ms h g = (simp (length-avoidUnderflow, length-take) (omega (arith, root, logLength-least (length ms) .0)), rest (logLength (length ms)) (logLength-least (length ms) .0))
+treeShape f ms h g = (simp (length-avoidUnderflowAll, length-take) (omega (arith, root, logLength-least (length ms) .0)), rest (logLength (length ms)) (logLength-least (length ms) .0))
   where
     root : length (treeLayers (logLength (length ms)) (normalize f) (firstLayer ms) .root) ≡ suc (2 ^ logLength (length ms) * 1)
     root = length-root (logLength (length ms)) 1 (normalize f) (firstLayer ms) (length-firstLayer ms) (long-of-firstLayer ms g)

@@ -19,7 +19,7 @@ pub mod AloneChecks
 pub mod Distinct
 pub mod Incident
 pub mod Sizes
--- For proofs of code: nodes and edges by number, the walk as a loop, messages as a row of floats.
+-- For proofs of code: nodes and edges by number, scans and positions, messages as a row of floats.
 pub mod Numbers
 pub mod WalkLoop
 pub mod Flat
@@ -39,20 +39,25 @@ pub mod Structure
 pub mod Places
 pub mod Consistency
 pub mod DirectionNumbers
+pub mod DirectionOrder
 pub mod MessageCounts
 pub mod Unread
 pub mod SentByTrees
 pub mod Highest
 pub mod InRange
-pub mod Linked
 -- What the public call needs of an answer: connected parts, counts, lengths, refusals; which grades have a belief.
 pub mod Connected
 pub mod Subsets
 pub mod AnswerSizes
+pub mod PartsOfBale
 pub mod Paired
 pub mod Overwriting
 pub mod CallLengths
+pub mod ReadBack
 pub mod FirstChecks
 pub mod Refused
+-- Number 9, and the program's table.
+pub mod FileRefused
+pub mod GoodFile
 -- All patterns: of grades that are present, of markers that are strongly read.
 pub mod Patterns

@@ -1,7 +1,7 @@
 -- What holds of each thing of a list; choosing, renaming and membership.
 use mathlib.Core.Path.{_≡_, refl, sym, ap, _∙_, subst}
 use mathlib.Core.Bool.{Bool, true, false, _||_, false≢true, or-true}
-use mathlib.Core.List.{List, [], _∷_, _++_, map, append-assoc}
+use mathlib.Core.List.{List, [], _∷_, _++_, map, append-assoc, map-append}
 use Prim.Native.Nat.{ℕ, zero, suc, _+_, _<_}
 use native.Mathlib.Omega.{arith}
 use lib.ListN.{length, getD, take, drop, replicate}
@@ -40,6 +40,9 @@ upto-snoc n =
 pub concat-append : {A : Type 0} (xs ys : List (List A)) → concat (xs ++ ys) ≡ concat xs ++ concat ys
 concat-append [] ys = refl
 concat-append (x ∷ xs) ys = ap (λ l. x ++ l) (concat-append xs ys) ∙ sym (append-assoc x (concat xs) (concat ys))
+
+pub concat-map-append : {A B : Type 0} (f : A → List B) (xs ys : List A) → concat (map f (xs ++ ys)) ≡ concat (map f xs) ++ concat (map f ys)
+concat-map-append f xs ys = ap concat (map-append f xs ys) ∙ concat-append (map f xs) (map f ys)
 
 -- an entry of what is made of a run of numbers
 module _ {A : Type 0} (f : ℕ → A) (d : A) where

@@ -1,6 +1,6 @@
 -- A state has as many entries as it should: after any events that begin with the opening, one message for each direction in each of the three sets, one build for
--- each node, one amount pending and one entry of the queue for each direction. So each node holds one message for each of its positions, as long as the edge
--- there says, and the bounds do not hold for want of messages.
+-- each node, one amount pending and one entry of the queue for each direction. So the message at each of a node's positions is as long as the edge there says,
+-- and the bounds do not hold for want of messages.
 use Prim.Native.Nat.{ℕ, suc, _+_, _<_}
 use native.Mathlib.Omega.{arith}
 use mathlib.Core.Path.{_≡_, refl, sym, ap, _∙_, subst}
@@ -8,7 +8,7 @@ use mathlib.Core.Bool.{Bool, true, false}
 use mathlib.Core.Option.{Option, none, some}
 use mathlib.Core.List.{List, [], _∷_}
 use lib.Ieee.{Float}
-use lib.ListN.{length, getD, drop, set, length-set, length-map, length-take, length-drop}
+use lib.ListN.{length, getD, drop, set, length-set, length-map}
 use lib.Seq.{getD-take, getD-drop}
 use Rattle.definition.specs.Floats.{_⊕_, zeroᶠ}
 use Rattle.definition.specs.Lists.{range}
@@ -53,10 +53,10 @@ length-updateKind p f (x ∷ xs) ms = length-updateKind p f xs _ ∙ go (p (x .k
     go true = length-setMessages (x .outgoing) (f x ms) ms
     go false = refl
 
-pub length-addTo : (r : Float) (ds : List ℕ) (p : List Float) → length (addPending r ds p) ≡ length p
+pub length-addPending : (r : Float) (ds : List ℕ) (p : List Float) → length (addPending r ds p) ≡ length p
 unfolding addPending
-length-addTo r [] p = refl
-length-addTo r (d ∷ ds) p = length-addTo r ds (set p d (getD p d zeroᶠ ⊕ r)) ∙ length-set p d (getD p d zeroᶠ ⊕ r)
+length-addPending r [] p = refl
+length-addPending r (d ∷ ds) p = length-addPending r ds (set p d (getD p d zeroᶠ ⊕ r)) ∙ length-set p d (getD p d zeroᶠ ⊕ r)
 
 pub length-wait : (p : List Float) (ds : List ℕ) (q : List (Option Float)) → length (pushPriorities p ds q) ≡ length q
 unfolding pushPriorities
@@ -77,9 +77,9 @@ pub record Counts (t : MessageGraph) (x : State) : Type 0 where
   pub priorities : length (x .priorities) ≡ length (t .directions)
 
 module _ (s : Settings) (t : MessageGraph) where
-  pub length-openForce : length (initializeMessages s t) ≡ length (t .directions)
+  pub length-initializeMessages : length (initializeMessages s t) ≡ length (t .directions)
   unfolding initializeMessages
-  length-openForce =
+  length-initializeMessages =
       length-updateKind isGrade (openingGrade s) (t .nodes) _ ∙ length-updateKind isFactor (openingFactor s t) (t .nodes) _ ∙ length-updateKind isInput (openingInput s) (t .nodes) _
       ∙ length-map (t .directions) initialMessage
 
@@ -97,7 +97,7 @@ module _ (s : Settings) (t : MessageGraph) where
 
   pub opening-counts : StoreCounts t (opening s t)
   unfolding opening
-  opening-counts = record { msgIn = length-openForce; msgInNew = length-openForce; msgInLog = length-openForce; lastBuilds = length-map (t .nodes) (λ (x : MessageNode). none) }
+  opening-counts = record { msgIn = length-initializeMessages; msgInNew = length-initializeMessages; msgInLog = length-initializeMessages; lastBuilds = length-map (t .nodes) (λ (x : MessageNode). none) }
 
   pub sweep-counts : (x : Store) → StoreCounts t x → StoreCounts t (sweep s t x)
   unfolding sweep
@@ -146,7 +146,7 @@ module _ (s : Settings) (t : MessageGraph) where
   step-counts b x h =
       record {
         store = move-counts (b .direction) _ (x .store) (length-copyNodes t (x .store .msgIn) (x .changed) (x .store .msgInLog) ∙ h .store .msgInLog) (h .store);
-        pending = length-addTo _ (otherOutgoing (directionAt t (b .direction) .startInEnd) (nodeAt t (directionAt t (b .direction) .end) .outgoing)) _ ∙ length-set (x .pending) (b .direction) zeroᶠ ∙ h .pending;
+        pending = length-addPending _ (otherOutgoing (directionAt t (b .direction) .startInEnd) (nodeAt t (directionAt t (b .direction) .end) .outgoing)) _ ∙ length-set (x .pending) (b .direction) zeroᶠ ∙ h .pending;
         priorities = length-wait _ (otherOutgoing (directionAt t (b .direction) .startInEnd) (nodeAt t (directionAt t (b .direction) .end) .outgoing)) _ ∙ length-set (x .priorities) (b .direction) none ∙ h .priorities;
       }
 
@@ -176,14 +176,6 @@ pub message-messagesIn : (x : MessageNode) (ms : List Message) (i : ℕ) → i <
 message-messagesIn x ms i h = getD-take (length (x .outgoing)) (drop (x .firstIncoming) ms) i [] h ∙ getD-drop (x .firstIncoming) ms i []
 
 module _ (g : Subgraph) (t : MessageGraph) (C : Consistent g t) where
-  -- a node holds one message for each position, and it is that of the direction there
-  pub messagesIn-count : (ms : List Message) → length ms ≡ length (t .directions) → (n : ℕ) → n < length (g .nodes) → length (messagesIn (nodeAt t n) ms) ≡ degreeOf g n
-  messagesIn-count ms h n l =
-      let f : NodeFits g t n = C .node n l in
-      let e = length-take (length (nodeAt t n .outgoing)) (drop (nodeAt t n .firstIncoming) ms) in
-      let d = length-drop (nodeAt t n .firstIncoming) ms in
-      omega (arith, e, d, f .outgoing, f .room)
-
   pub messagesIn-at : (ms : List Message) (n i : ℕ) → n < length (g .nodes) → i < degreeOf g n → messageAt i (messagesIn (nodeAt t n) ms) ≡ messageAt (nodeAt t n .firstIncoming + i) ms
   messagesIn-at ms n i l j = message-messagesIn (nodeAt t n) ms i (let f : NodeFits g t n = C .node n l in omega (arith, f .outgoing))
 
@@ -198,10 +190,6 @@ module _ (s : Settings) (f : Buffers) (b : Bale) (k : ℕ) (p : List Node) (h : 
 
   abbrev t : MessageGraph
   t = messageGraphOf b p
-
-  -- each node holds as many messages as it has positions
-  pub messagesIn-counted : (es : List Event) (x : State) (n : ℕ) → n < length (g .nodes) → length (messagesIn (nodeAt t n) (stateAfter s t (opened ∷ es) x .store .msgIn)) ≡ degreeOf g n
-  messagesIn-counted es x n l = messagesIn-count g t (consistent s f b k p h) (stateAfter s t (opened ∷ es) x .store .msgIn) (counted s t es x .store .msgIn) n l
 
   -- each as long as the edge there says
   pub messagesIn-long : (es : List Event) (x : State) (n i : ℕ) → n < length (g .nodes) → i < degreeOf g n

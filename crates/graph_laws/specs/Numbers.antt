@@ -12,14 +12,13 @@ use Rattle.graph_laws.specs.Lists.{All, upto, count-suc, All-append, All
 use Rattle.definition.specs.Components.{Search, walk, walkStart, Subgraph, isIncident, otherEnd, incidentEdges, neighbours, componentFrom, componentsFrom, components, subgraph, componentsOf, subgraphOf}
 use Rattle.graph_laws.specs.Walk.{mem-map, index-map, walk-within, walk-map}
 use Rattle.graph_laws.specs.Ranks.{NoDup, index-inj, getD-index, getD-map-index, map-index, mem-upto, mem-none}
-use Rattle.definition.specs.FactorGraph.{Edge, Graph, Bale, Node, gradeNode, factorNode, inputNode, treeNode, eqNode, eqEdge, hasTree, gradesOf, markerNumbers, builtNodes, builtEdges, builtGraph, Kind, kindOf}
+use Rattle.definition.specs.FactorGraph.{Edge, Graph, Bale, Node, gradeNode, factorNode, inputNode, treeNode, eqNode, eqEdge, hasTree, gradesOf, markerNumbers, builtNodes, builtEdges, builtGraph, Kind, kindOf, eqPair}
 use Rattle.graph_laws.specs.Components.{Holds}
 use Rattle.graph_laws.specs.Isomorphism.{onEdge, Ends, subgraphBy, isIncident-map, stays, carries, subgraphBy-map}
-use Rattle.graph_laws.specs.AloneChecks.{eqPair, length-upto}
+use Rattle.graph_laws.specs.AloneChecks.{length-upto}
 use Rattle.graph_laws.specs.Names.{eqNode-sound, eqNode-same, Valid, built-inside}
 use Rattle.graph_laws.specs.Distinct.{nodes-nodup, edges-nodup}
 use Rattle.graph_laws.specs.Positions.{eqEdge-sound, eqEdge-same}
-use Rattle.graph_laws.specs.Locality.{Part, of-nodes, all-components}
 
 -- a graph of numbers, with its edges by number: ends and length of edge k, the rising list of the edges that name n, and its neighbours in that order
 abbrev pub noEdge : Edge ℕ
@@ -43,12 +42,12 @@ map-getD d [] = refl
 map-getD d (x ∷ xs) = ap (λ l. x ∷ l) (ap (map (λ k. getD (x ∷ xs) k d)) (count-suc 0 (length xs)) ∙ map-map (λ k. getD (x ∷ xs) k d) suc (upto (length xs)) ∙ map-getD d xs)
 
 -- the edges that name n, and its neighbours, from the edges' numbers
-pub incidentEdges-no : (es : List (Edge ℕ)) (n : ℕ) → incidentEdges eqb es n ≡ map (edgeByNumber es) (incidentNumbers es n)
-incidentEdges-no es n =
+pub incidentEdges-by-number : (es : List (Edge ℕ)) (n : ℕ) → incidentEdges eqb es n ≡ map (edgeByNumber es) (incidentNumbers es n)
+incidentEdges-by-number es n =
     ap (λ l. incidentEdges eqb l n) (sym (map-getD noEdge es)) ∙ filter-map (edgeByNumber es) (isIncident eqb n) (upto (length es))
 
-pub neighbours-no : (es : List (Edge ℕ)) (n : ℕ) → neighbours eqb es n ≡ neighbourNumbersOf es n
-neighbours-no es n = ap (map (otherEnd eqb n)) (incidentEdges-no es n) ∙ map-map (otherEnd eqb n) (edgeByNumber es) (incidentNumbers es n)
+pub neighbours-by-number : (es : List (Edge ℕ)) (n : ℕ) → neighbours eqb es n ≡ neighbourNumbersOf es n
+neighbours-by-number es n = ap (map (otherEnd eqb n)) (incidentEdges-by-number es n) ∙ map-map (otherEnd eqb n) (edgeByNumber es) (incidentNumbers es n)
 
 -- all parts of a graph whose nodes are renamed
 module _ {A B : Type 0} (eqA : A → A → Bool) (eqB : B → B → Bool) (ρ : A → B) (C : A → Type 0)
@@ -237,11 +236,3 @@ module _ (b : Bale) where
         where
           es : List (Edge ℕ)
           es = map (onEdge number) (builtEdges b)
-
-      -- so part by part
-      abbrev pub SameByNumbers : List Node → Type 0
-      SameByNumbers p = subgraphByNumber (numbered .edges) kindByNumber (map number p) ≡ subgraphOf b p
-
-      pub numbered-locals : All SameByNumbers (componentsOf b)
-      numbered-locals =
-          All-mono (Part b valid) SameByNumbers (λ p is. numbered-subgraph p (of-nodes b valid p is)) (componentsOf b) (all-components b valid)

@@ -12,10 +12,10 @@ use lib.Dec.{eqb, leb, ltb}
 use lib.ListN.{length, getD, getElem?}
 use Rattle.graph_laws.specs.Bools.{or-cases, or-left, or-right}
 use Rattle.definition.specs.Floats.{oneᶠ}
-use Rattle.definition.specs.Lists.{range, indexOf}
+use Rattle.definition.specs.Lists.{range, mem, indexOf}
 use Rattle.definition.specs.Settings.{Settings}
-use Rattle.definition.specs.FactorGraph.{Evidence, Pair, Bale, markerNumbers}
-use Rattle.definition.specs.Refusals.{Buffers, outside, leastProbability, greatestProbability, leastEvidence, tooMany, workNeeded, tooSmall, badTolerance, badEvidence, unknownPair, equalPairs, isAmong, repeatedPairs, tooManyGrades, accepted, refused, verdict}
+use Rattle.definition.specs.FactorGraph.{Evidence, Pair, Bale, markerNumbers, eqPair}
+use Rattle.definition.specs.Refusals.{Buffers, outside, leastProbability, greatestProbability, leastEvidence, tooMany, workNeeded, tooSmall, badTolerance, badEvidence, unknownPair, repeatedPairs, tooManyGrades, accepted, refused, verdict}
 use Rattle.claims.specs.First.{First}
 use Rattle.claims.specs.Refused.{Fails, manyGrades, manyMarkers, manyPairs, smallWorkFloats, smallWorkNumbers, smallBeliefNumbers, smallBeliefFloats, smallEndingNumbers, smallEndingFloats, badAlpha, badBeta, badPrior, tolerance, limit, absent, present, unknownGrade, unknownMarker, again, crowds}
 use Rattle.graph_laws.specs.Lists.{count-at}
@@ -42,40 +42,40 @@ verdict-first s f b = refl
 
 -- a pair that was given before
 repeats-test : (before ps : List Pair) (i : ℕ) → getD (repeatedPairs before ps) i false ≡ true
-    → (q : Pair) × (getElem? ps i ≡ some q) × ((isAmong q before ≡ true) ⊎ ((j : ℕ) × (j < i) × (getElem? ps j ≡ some q)))
-unfolding repeatedPairs isAmong equalPairs
+    → (q : Pair) × (getElem? ps i ≡ some q) × ((mem eqPair q before ≡ true) ⊎ ((j : ℕ) × (j < i) × (getElem? ps j ≡ some q)))
+unfolding repeatedPairs
 repeats-test before [] i h = absurd (false≢true h)
 repeats-test before (p ∷ ps) zero h = (p, refl, inl h)
 repeats-test before (p ∷ ps) (suc i) h = go (repeats-test (p ∷ before) ps i h)
   where
     Before : Pair → Type 0
-    Before q = (isAmong q before ≡ true) ⊎ ((j : ℕ) × (j < suc i) × (getElem? (p ∷ ps) j ≡ some q))
+    Before q = (mem eqPair q before ≡ true) ⊎ ((j : ℕ) × (j < suc i) × (getElem? (p ∷ ps) j ≡ some q))
 
-    old : (q : Pair) → (equalPairs q p ≡ true) ⊎ (isAmong q before ≡ true) → Before q
+    old : (q : Pair) → (eqPair q p ≡ true) ⊎ (mem eqPair q before ≡ true) → Before q
     old q (inl e) = inr (0, omega arith, ap some (sym (eqPair-sound q p e)))
     old q (inr e) = inl e
 
-    either : (q : Pair) → (isAmong q (p ∷ before) ≡ true) ⊎ ((j : ℕ) × (j < i) × (getElem? ps j ≡ some q)) → Before q
-    either q (inl e) = old q (or-cases (equalPairs q p) (isAmong q before) e)
+    either : (q : Pair) → (mem eqPair q (p ∷ before) ≡ true) ⊎ ((j : ℕ) × (j < i) × (getElem? ps j ≡ some q)) → Before q
+    either q (inl e) = old q (or-cases (eqPair q p) (mem eqPair q before) e)
     either q (inr r) = inr (suc (r .0), (let l = r .1 in omega arith), r .2)
 
-    go : (q : Pair) × (getElem? ps i ≡ some q) × ((isAmong q (p ∷ before) ≡ true) ⊎ ((j : ℕ) × (j < i) × (getElem? ps j ≡ some q)))
+    go : (q : Pair) × (getElem? ps i ≡ some q) × ((mem eqPair q (p ∷ before) ≡ true) ⊎ ((j : ℕ) × (j < i) × (getElem? ps j ≡ some q)))
         → (q : Pair) × (getElem? ps i ≡ some q) × Before q
     go r = (r .0, r .1, either (r .0) (r .2))
 
-test-given : (before ps : List Pair) (i : ℕ) (q : Pair) → getElem? ps i ≡ some q → isAmong q before ≡ true → getD (repeatedPairs before ps) i false ≡ true
-unfolding repeatedPairs isAmong
+test-given : (before ps : List Pair) (i : ℕ) (q : Pair) → getElem? ps i ≡ some q → mem eqPair q before ≡ true → getD (repeatedPairs before ps) i false ≡ true
+unfolding repeatedPairs
 test-given before [] i q e h = absurd (nothing e)
-test-given before (p ∷ ps) zero q e h = let z : p ≡ q = cc in ap (λ (x : Pair). isAmong x before) z ∙ h
-test-given before (p ∷ ps) (suc i) q e h = test-given (p ∷ before) ps i q e (or-right (equalPairs q p) (isAmong q before) h)
+test-given before (p ∷ ps) zero q e h = let z : p ≡ q = cc in ap (λ (x : Pair). mem eqPair x before) z ∙ h
+test-given before (p ∷ ps) (suc i) q e h = test-given (p ∷ before) ps i q e (or-right (eqPair q p) (mem eqPair q before) h)
 
 test-repeats : (before ps : List Pair) (i j : ℕ) (q : Pair) → j < i → getElem? ps j ≡ some q → getElem? ps i ≡ some q → getD (repeatedPairs before ps) i false ≡ true
-unfolding repeatedPairs isAmong equalPairs
+unfolding repeatedPairs
 test-repeats before [] i j q l e h = absurd (nothing e)
 test-repeats before (p ∷ ps) zero j q l e h = absurd (let z : ⊥ = omega arith in z)
 test-repeats before (p ∷ ps) (suc i) zero q l e h =
     let z : p ≡ q = cc in
-    test-given (p ∷ before) ps i q h (or-left (equalPairs q p) (isAmong q before) (subst (λ (x : Pair). equalPairs q x ≡ true) (sym z) (eqPair-same q)))
+    test-given (p ∷ before) ps i q h (or-left (eqPair q p) (mem eqPair q before) (subst (λ (x : Pair). eqPair q x ≡ true) (sym z) (eqPair-same q)))
 test-repeats before (p ∷ ps) (suc i) (suc j) q l e h = test-repeats (p ∷ before) ps i j q (omega arith) e h
 
 -- one of six
@@ -135,10 +135,9 @@ module _ (s : Settings) (f : Buffers) (b : Bale) where
       go q m (inr t) = unknownMarker m (leb-true _ _ t)
 
   row7 : (p : ℕ) → getD (repeatedPairs [] (b .pairs)) p false ≡ true → Fails s f b 7 p
-  unfolding isAmong
   row7 p h = let r = repeats-test [] (b .pairs) p h in go (r .0) (r .1) (r .2)
     where
-      go : (q : Pair) → getElem? (b .pairs) p ≡ some q → (isAmong q [] ≡ true) ⊎ ((j : ℕ) × (j < p) × (getElem? (b .pairs) j ≡ some q)) → Fails s f b 7 p
+      go : (q : Pair) → getElem? (b .pairs) p ≡ some q → (mem eqPair q [] ≡ true) ⊎ ((j : ℕ) × (j < p) × (getElem? (b .pairs) j ≡ some q)) → Fails s f b 7 p
       go q m (inl t) = absurd (false≢true t)
       go q m (inr t) = again (t .0) (t .1) (t .2) m
 

@@ -14,7 +14,7 @@ use Rattle.definition.specs.Lists.{mem}
 use Rattle.definition.specs.Floats.{c, oneᶠ}
 use Rattle.definition.specs.Vectors.{Message}
 use Rattle.definition.specs.Settings.{Settings}
-use Rattle.definition.specs.FactorGraph.{Bale, Evidence, Node, gradeNode, factorNode, inputNode, treeNode, eqNode, Edge, eqEdge, builtGraph, markerNumbers, gradesOf, hasTree, markerEdges, builtNodes, builtEdges, Kind, input, noEvidence, kindOf}
+use Rattle.definition.specs.FactorGraph.{Bale, Evidence, Node, gradeNode, factorNode, inputNode, treeNode, eqNode, Edge, eqEdge, builtGraph, markerNumbers, gradesOf, hasTree, markerEdges, builtNodes, builtEdges, Kind, input, noEvidence, kindOf, eqPair}
 use Rattle.definition.specs.Components.{isIncident, otherEnd, incidentEdges, subgraphOf}
 use Rattle.definition.specs.Directions.{messageGraphOf, directionAt, messageAt}
 use Rattle.definition.specs.Messages.{initialBelief}
@@ -27,7 +27,7 @@ use Rattle.graph_laws.specs.Partition.{part-nodup}
 use Rattle.graph_laws.specs.Names.{eqNode-sound, eqNode-same, Valid, built-inside, node-input, node-tree}
 use Rattle.graph_laws.specs.Locality.{Part, of-nodes}
 use Rattle.graph_laws.specs.Positions.{eqEdge-sound}
-use Rattle.graph_laws.specs.AloneChecks.{eqPair, All-getD}
+use Rattle.graph_laws.specs.AloneChecks.{All-getD}
 use Rattle.graph_laws.specs.MessageLengths.{Along, as-long}
 use Rattle.graph_laws.specs.Sending.{Keeps, MessageGraphKept, good-in-force}
 use Rattle.graph_laws.specs.Incident.{toFactor, toGrade, ofGrade, ofInput, markerEdges-all, factor-list, tree-list, input-list, grade-list}
@@ -235,15 +235,15 @@ good-evidence s e h = let x = or-no (outside leastEvidence oneᶠ (e .absent)) (
 -- ---- the message graph of every part of an accepted bale
 
 -- for any way to be good that the evidence has
-pub components-kept : (Good : Message → Type 0) (s : Settings) (f : Buffers) (b : Bale) (n : ℕ) (p : List Node) → AcceptedPart s f b n p → All (λ e. Good (initialBelief s (input e))) (b .markers)
+pub part-graph-kept : (Good : Message → Type 0) (s : Settings) (f : Buffers) (b : Bale) (n : ℕ) (p : List Node) → AcceptedPart s f b n p → All (λ e. Good (initialBelief s (input e))) (b .markers)
     → MessageGraphKept Good s (messageGraphOf b p)
-components-kept Good s f b n p h g =
+part-graph-kept Good s f b n p h g =
     let P : Passes s f b = passes-all s f b (h .accepts) in
     messageGraph-kept Good s b (valid b (P .known)) (pairs-apart b (P .once)) (sized b (P .sizes .0) .markers) (uncrowded b (P .few)) g p (is-part b (valid b (P .known)) n p (h .stands))
 
 pub within-kept : (s : Settings) (f : Buffers) (b : Bale) (n : ℕ) (p : List Node) → AcceptedPart s f b n p → MessageGraphKept Within s (messageGraphOf b p)
 within-kept s f b n p h =
-    components-kept Within s f b n p h
+    part-graph-kept Within s f b n p h
     (All-mono (λ e. badEvidence e ≡ false) (λ e. Within (initialBelief s (input e))) (good-evidence s) (b .markers)
     (All-map-from (λ x. x ≡ false) badEvidence (b .markers) (passes-all s f b (h .accepts) .evidence)))
 
@@ -260,4 +260,4 @@ WithinByDirection s b p = (es : List Event) (x : State) (d : ℕ) → d < length
 pub bounds-from-good : (Good : Message → Type 0) → ((m : Message) → Good m → Within m) → (s : Settings) → Keeps Good s
     → (f : Buffers) (b : Bale) (n : ℕ) (p : List Node) → AcceptedPart s f b n p → All (λ e. Good (initialBelief s (input e))) (b .markers) → WithinByDirection s b p
 bounds-from-good Good W s K f b n p h g es x d i =
-    W (messageAt d (stateAfter s (messageGraphOf b p) (opened ∷ es) x .store .msgIn)) (good-in-force Good s (messageGraphOf b p) K (components-kept Good s f b n p h g) es x d i)
+    W (messageAt d (stateAfter s (messageGraphOf b p) (opened ∷ es) x .store .msgIn)) (good-in-force Good s (messageGraphOf b p) K (part-graph-kept Good s f b n p h g) es x d i)

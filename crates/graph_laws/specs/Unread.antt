@@ -14,19 +14,16 @@ use Rattle.graph_laws.specs.Bools.{or-left, or-right, no-or, either-arm,
 use Rattle.definition.specs.Lists.{concat, mem}
 use Rattle.definition.specs.Vectors.{Message, normalize}
 use Rattle.definition.specs.Settings.{Settings}
-use Rattle.definition.specs.FactorGraph.{Bale, Node, isTree}
-use Rattle.definition.specs.Components.{Subgraph, subgraphOf}
+use Rattle.definition.specs.FactorGraph.{isTree}
+use Rattle.definition.specs.Components.{Subgraph}
 use Rattle.definition.specs.ConvolutionTree.{countLayer, likelihoodsBelow, treeLayers, logLength, firstLayer, treeMessages}
-use Rattle.definition.specs.Directions.{MessageNode, noMessageNode, MessageGraph, nodeAt, directionAt, messageAt, messagesIn, setMessages, messageGraphOf}
+use Rattle.definition.specs.Directions.{MessageNode, noMessageNode, MessageGraph, nodeAt, directionAt, messageAt, messagesIn, setMessages}
 use Rattle.definition.specs.Messages.{outMessage, LastBuild, Outgoing, needsRebuild, treeOutMessages, outMessagesTree, outMessages}
 use Rattle.definition.specs.Sweeps.{Store, opening, computeUpdate, sweep}
-use Rattle.definition.specs.Run.{State, beginLoop, Event, opened, swept, applyEvent, stateAfter}
-use Rattle.definition.specs.Refusals.{Buffers}
 use Rattle.graph_laws.specs.Lists.{All}
 use Rattle.graph_laws.specs.Reach.{mem-append}
-use Rattle.claims.specs.Parts.{AcceptedPart}
 use Rattle.graph_laws.specs.Places.{All-numbered}
-use Rattle.graph_laws.specs.Consistency.{NodeFits, DirectionFits, Consistent, consistent}
+use Rattle.graph_laws.specs.Consistency.{NodeFits, DirectionFits, Consistent}
 use Rattle.graph_laws.specs.MessageCounts.{length-setMessages, length-computeUpdate, StoreCounts, opening-counts}
 
 -- ---- a tree sends as many messages as it holds
@@ -59,10 +56,10 @@ length-built (f ∷ ms) =
 pub length-messagesIn : (x : MessageNode) (ms : List Message) → x .firstIncoming + length (x .outgoing) ≤ length ms → length (messagesIn x ms) ≡ length (x .outgoing)
 length-messagesIn x ms h = omega (arith, length-take (length (x .outgoing)) (drop (x .firstIncoming) ms), length-drop (x .firstIncoming) ms)
 
-pub length-fromTree : (s : Settings) (ms : List Message) (x : MessageNode) (b : LastBuild)
+pub length-outMessagesTree : (s : Settings) (ms : List Message) (x : MessageNode) (b : LastBuild)
     → x .firstIncoming + length (x .outgoing) ≤ length ms → length (outMessagesTree s ms x b .messages) ≡ length (x .outgoing)
 unfolding outMessagesTree
-length-fromTree s ms x b h =
+length-outMessagesTree s ms x b h =
     either-arm (λ (o : Outgoing). length (o .messages) ≡ length (x .outgoing)) (needsRebuild (s .tolerance) (messagesIn x ms) b) _ _
     (λ _. length-built (messagesIn x ms) ∙ length-messagesIn x ms h) (λ _. length-map (x .outgoing) (λ (o : ℕ). messageAt o ms))
 
@@ -71,7 +68,7 @@ pub length-outMessages : (s : Settings) (t : MessageGraph) (ms : List Message) (
 unfolding outMessages
 length-outMessages s t ms x b h =
     either-arm (λ (o : Outgoing). length (o .messages) ≡ length (x .outgoing)) (isTree (x .kind)) _ _
-    (λ _. length-fromTree s ms x b h) (λ _. length-map (x .outgoing) (outMessage s t ms))
+    (λ _. length-outMessagesTree s ms x b h) (λ _. length-map (x .outgoing) (outMessage s t ms))
 
 -- ---- what is written is the same over any set
 
@@ -98,11 +95,11 @@ abbrev pub outsOf : List MessageNode → List ℕ
 outsOf xs = concat (map (λ (x : MessageNode). x .outgoing) xs)
 
 -- each node of a list holds what it should
-abbrev pub Room : List Message → List MessageNode → Type 0
-Room ms xs = All (λ x. x .firstIncoming + length (x .outgoing) ≤ length ms) xs
+abbrev pub NodesInside : List Message → List MessageNode → Type 0
+NodesInside ms xs = All (λ x. x .firstIncoming + length (x .outgoing) ≤ length ms) xs
 
 module _ (s : Settings) (t : MessageGraph) (ms : List Message) where
-  over : (d : ℕ) (xs : List MessageNode) (bs : List LastBuild) (k l : List Message) → Room ms xs → length bs ≡ length xs → length k ≡ length l → d < length k
+  over : (d : ℕ) (xs : List MessageNode) (bs : List LastBuild) (k l : List Message) → NodesInside ms xs → length bs ≡ length xs → length k ≡ length l → d < length k
       → (mem eqb d (outsOf xs) ≡ false → messageAt d k ≡ messageAt d l) → messageAt d (computeUpdate s t ms xs bs k .msgInNew) ≡ messageAt d (computeUpdate s t ms xs bs l .msgInNew)
   unfolding computeUpdate
   over d [] bs k l a b f h r = r refl
@@ -119,7 +116,7 @@ module _ (s : Settings) (t : MessageGraph) (ms : List Message) where
   builds-over (x ∷ xs) (b ∷ bs) k l = ap (λ (r : List LastBuild). outMessages s t ms x b .lastBuild ∷ r) (builds-over xs bs _ _)
 
   -- where the nodes send by every direction, what stood there before is of no account
-  pub computeUpdate-over : (xs : List MessageNode) (bs : List LastBuild) (k l : List Message) → Room ms xs → length bs ≡ length xs → length k ≡ length l
+  pub computeUpdate-over : (xs : List MessageNode) (bs : List LastBuild) (k l : List Message) → NodesInside ms xs → length bs ≡ length xs → length k ≡ length l
       → ((d : ℕ) → d < length k → mem eqb d (outsOf xs) ≡ true) → computeUpdate s t ms xs bs k ≡ computeUpdate s t ms xs bs l
   computeUpdate-over xs bs k l a b f h =
       let e : computeUpdate s t ms xs bs k .msgInNew ≡ computeUpdate s t ms xs bs l .msgInNew =
@@ -141,16 +138,16 @@ mem-outs d (x ∷ xs) zero h m = mem-append eqb d (x .outgoing) (outsOf xs) ∙ 
 mem-outs d (x ∷ xs) (suc n) h m = mem-append eqb d (x .outgoing) (outsOf xs) ∙ or-right (mem eqb d (x .outgoing)) (mem eqb d (outsOf xs)) (mem-outs d xs n (omega arith) m)
 
 module _ (g : Subgraph) (t : MessageGraph) (C : Consistent g t) where
-  pub each-outMessage : (d : ℕ) → d < length (t .directions) → mem eqb d (outsOf (t .nodes)) ≡ true
-  each-outMessage d l =
+  pub each-outgoing : (d : ℕ) → d < length (t .directions) → mem eqb d (outsOf (t .nodes)) ≡ true
+  each-outgoing d l =
       let w : DirectionFits g t d (directionAt t d) = C .direction d l in
       let n : NodeFits g t (directionAt t d .start) = C .node (directionAt t d .start) (w .start-there) in
       mem-outs d (t .nodes) (directionAt t d .start) (omega (arith, w .start-there, C .nodes))
       (subst (λ (k : ℕ). mem eqb k (nodeAt t (directionAt t d .start) .outgoing) ≡ true) (w .is-out)
       (mem-at (nodeAt t (directionAt t d .start) .outgoing) (directionAt t d .endInStart) (omega (arith, w .endInStart-there, n .outgoing))))
 
-  pub messageNodes-room : (ms : List Message) → length ms ≡ length (t .directions) → Room ms (t .nodes)
-  messageNodes-room ms h =
+  pub nodes-inside : (ms : List Message) → length ms ≡ length (t .directions) → NodesInside ms (t .nodes)
+  nodes-inside ms h =
       All-numbered (λ x. x .firstIncoming + length (x .outgoing) ≤ length ms) noMessageNode (t .nodes)
       (λ n l. let f : NodeFits g t n = C .node n (omega (arith, C .nodes)) in omega (arith, f .outgoing, f .room))
 
@@ -160,8 +157,8 @@ module _ (g : Subgraph) (t : MessageGraph) (C : Consistent g t) where
   unfolding sweep
   sweep-unread s x y f l b h k =
       let e : computeUpdate s t (x .msgIn) (t .nodes) (x .lastBuilds) (x .msgInNew) ≡ computeUpdate s t (y .msgIn) (t .nodes) (y .lastBuilds) (y .msgInNew) =
-      computeUpdate-over s t (x .msgIn) (t .nodes) (x .lastBuilds) (x .msgInNew) (y .msgInNew) (messageNodes-room (x .msgIn) (h .msgIn)) (h .lastBuilds) (h .msgInNew ∙ sym k)
-      (λ d i. each-outMessage d (omega (arith, h .msgInNew)))
+      computeUpdate-over s t (x .msgIn) (t .nodes) (x .lastBuilds) (x .msgInNew) (y .msgInNew) (nodes-inside (x .msgIn) (h .msgIn)) (h .lastBuilds) (h .msgInNew ∙ sym k)
+      (λ d i. each-outgoing d (omega (arith, h .msgInNew)))
       ∙ ap (λ (m : List Message). computeUpdate s t m (t .nodes) (x .lastBuilds) (y .msgInNew)) f ∙ ap (λ (c : List LastBuild). computeUpdate s t (y .msgIn) (t .nodes) c (y .msgInNew)) b
       in
       λ i. record { msgIn = e i .msgInNew; msgInNew = l i; msgInLog = f i; lastBuilds = e i .lastBuilds }
@@ -171,20 +168,3 @@ module _ (g : Subgraph) (t : MessageGraph) (C : Consistent g t) where
       → sweep s t (record { msgIn = opening s t .msgIn; msgInNew = z; msgInLog = opening s t .msgInLog; lastBuilds = opening s t .lastBuilds }) ≡ sweep s t (opening s t)
   opening-unread s z h =
       sym (sweep-unread s (opening s t) (record { msgIn = opening s t .msgIn; msgInNew = z; msgInLog = opening s t .msgInLog; lastBuilds = opening s t .lastBuilds }) refl refl refl (opening-counts s t) h)
-
-  -- and all that comes after a sweep is the same
-  pub after-unread : (s : Settings) (es : List Event) (x y : State) → x .store .msgIn ≡ y .store .msgIn → x .store .msgInLog ≡ y .store .msgInLog → x .store .lastBuilds ≡ y .store .lastBuilds
-      → StoreCounts t (x .store) → length (y .store .msgInNew) ≡ length (t .directions) → stateAfter s t (swept ∷ es) x ≡ stateAfter s t (swept ∷ es) y
-  unfolding stateAfter applyEvent
-  after-unread s es x y f l b h k = ap (λ (z : Store). stateAfter s t es (beginLoop s t z)) (sweep-unread s (x .store) (y .store) f l b h k)
-
-  -- so a run that begins with anything there goes on as the run does
-  pub opened-unread : (s : Settings) (es : List Event) (x : State) (z : List Message) → length z ≡ length (t .directions)
-      → stateAfter s t (swept ∷ es) (beginLoop s t (record { msgIn = opening s t .msgIn; msgInNew = z; msgInLog = opening s t .msgInLog; lastBuilds = opening s t .lastBuilds })) ≡ stateAfter s t (opened ∷ swept ∷ es) x
-  unfolding stateAfter applyEvent beginLoop
-  opened-unread s es x z h = ap (λ (w : Store). stateAfter s t es (beginLoop s t w)) (opening-unread s z h)
-
--- of each part of an accepted bale
-pub unread : (s : Settings) (f : Buffers) (b : Bale) (n : ℕ) (p : List Node) → AcceptedPart s f b n p → (x y : Store) → x .msgIn ≡ y .msgIn → x .msgInLog ≡ y .msgInLog → x .lastBuilds ≡ y .lastBuilds
-    → StoreCounts (messageGraphOf b p) x → length (y .msgInNew) ≡ length (messageGraphOf b p .directions) → sweep s (messageGraphOf b p) x ≡ sweep s (messageGraphOf b p) y
-unread s f b n p h x y = sweep-unread (subgraphOf b p) (messageGraphOf b p) (consistent s f b n p h) s x y

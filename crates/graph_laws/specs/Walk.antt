@@ -20,28 +20,28 @@ module _ {A B : Type 0} (eqA : A → A → Bool) (eqB : B → B → Bool) (ρ : 
   index-map a [] c h = refl
   index-map a (x ∷ xs) c h = cc (inj a x c (h .0), index-map a xs c (h .1))
 
-abbrev pub Within : {A : Type 0} → (A → Type 0) → Search A → Type 0
-Within C s = All C (s .visited) × All C (s .stack)
+abbrev pub SearchWithin : {A : Type 0} → (A → Type 0) → Search A → Type 0
+SearchWithin C s = All C (s .visited) × All C (s .stack)
 
 -- a walk does not leave a set that holds its start and the neighbours of each of its nodes
 module _ {A : Type 0} (eq : A → A → Bool) (done : List A) (C : A → Type 0) where
-  visit-within : (n : A) (s : Search A) → C n → Within C s → Within C (visit eq done n s)
+  visit-within : (n : A) (s : Search A) → C n → SearchWithin C s → SearchWithin C (visit eq done n s)
   visit-within n s c w = go (isVisited eq done s n)
     where
-      go : (b : Bool) → Within C (cond b s (record { visited = s .visited ++ n ∷ []; stack = n ∷ s .stack }))
+      go : (b : Bool) → SearchWithin C (cond b s (record { visited = s .visited ++ n ∷ []; stack = n ∷ s .stack }))
       go true = w
       go false = (All-append C (s .visited) (n ∷ []) (w .0) (c, tt), (c, w .1))
 
-  visitAll-within : (ns : List A) (s : Search A) → All C ns → Within C s → Within C (visitAll eq done ns s)
+  visitAll-within : (ns : List A) (s : Search A) → All C ns → SearchWithin C s → SearchWithin C (visitAll eq done ns s)
   visitAll-within [] s c w = w
   visitAll-within (n ∷ ns) s c w = visitAll-within ns (visit eq done n s) (c .1) (visit-within n s (c .0) w)
 
   module _ (nb : A → List A) (stays : (a : A) → C a → All C (nb a)) where
-    popNode-within : (met rest : List A) → All C met → All C rest → Within C (popNode eq done nb met rest)
+    popNode-within : (met rest : List A) → All C met → All C rest → SearchWithin C (popNode eq done nb met rest)
     popNode-within met [] c d = (c, tt)
     popNode-within met (v ∷ rest) c d = visitAll-within (nb v) (record { visited = met; stack = rest }) (stays v (d .0)) (c, d .1)
 
-    pub walk-within : (k : ℕ) (s : Search A) → Within C s → Within C (walk eq done nb k s)
+    pub walk-within : (k : ℕ) (s : Search A) → SearchWithin C s → SearchWithin C (walk eq done nb k s)
     unfolding walk
     walk-within zero s w = w
     walk-within (suc k) s w = walk-within k (walkStep eq done nb s) (popNode-within (s .visited) (s .stack) (w .0) (w .1))
@@ -50,10 +50,10 @@ module _ {A : Type 0} (eq : A → A → Bool) (done : List A) (C : A → Type 0)
 module _ {A B : Type 0} (eqA : A → A → Bool) (eqB : B → B → Bool) (ρ : A → B) (C : A → Type 0)
     (inj : (a b : A) → C a → C b → eqB (ρ a) (ρ b) ≡ eqA a b)
     (doneA : List A) (doneB : List B) (apart : (a : A) → C a → mem eqB (ρ a) doneB ≡ mem eqA a doneA) where
-  known-map : (n : A) (s : Search A) → C n → Within C s → isVisited eqB doneB (mapSearch ρ s) (ρ n) ≡ isVisited eqA doneA s n
+  known-map : (n : A) (s : Search A) → C n → SearchWithin C s → isVisited eqB doneB (mapSearch ρ s) (ρ n) ≡ isVisited eqA doneA s n
   known-map n s c w = cc (mem-map eqA eqB ρ C inj n (s .visited) c (w .0), apart n c)
 
-  visit-map : (n : A) (s : Search A) → C n → Within C s → visit eqB doneB (ρ n) (mapSearch ρ s) ≡ mapSearch ρ (visit eqA doneA n s)
+  visit-map : (n : A) (s : Search A) → C n → SearchWithin C s → visit eqB doneB (ρ n) (mapSearch ρ s) ≡ mapSearch ρ (visit eqA doneA n s)
   visit-map n s c w = rw (known-map n s c w) (go (isVisited eqA doneA s n))
     where
       go : (b : Bool)
@@ -62,7 +62,7 @@ module _ {A B : Type 0} (eqA : A → A → Bool) (eqB : B → B → Bool) (ρ : 
       go true = refl
       go false = λ i. record { visited = sym (map-append ρ (s .visited) (n ∷ [])) i; stack = ρ n ∷ map ρ (s .stack) }
 
-  visitAll-map : (ns : List A) (s : Search A) → All C ns → Within C s → visitAll eqB doneB (map ρ ns) (mapSearch ρ s) ≡ mapSearch ρ (visitAll eqA doneA ns s)
+  visitAll-map : (ns : List A) (s : Search A) → All C ns → SearchWithin C s → visitAll eqB doneB (map ρ ns) (mapSearch ρ s) ≡ mapSearch ρ (visitAll eqA doneA ns s)
   visitAll-map [] s c w = refl
   visitAll-map (n ∷ ns) s c w =
       ap (λ (t : Search B). visitAll eqB doneB (map ρ ns) t) (visit-map n s (c .0) w)
@@ -78,7 +78,7 @@ module _ {A B : Type 0} (eqA : A → A → Bool) (eqB : B → B → Bool) (ρ : 
         ∙ visitAll-map (nbA v) (record { visited = met; stack = rest }) (stays v (d .0)) (c, d .1)
 
     -- the walk commutes with the renaming
-    pub walk-map : (k : ℕ) (s : Search A) → Within C s → walk eqB doneB nbB k (mapSearch ρ s) ≡ mapSearch ρ (walk eqA doneA nbA k s)
+    pub walk-map : (k : ℕ) (s : Search A) → SearchWithin C s → walk eqB doneB nbB k (mapSearch ρ s) ≡ mapSearch ρ (walk eqA doneA nbA k s)
     unfolding walk
     walk-map zero s w = refl
     walk-map (suc k) s w =

@@ -1,9 +1,9 @@
 -- A range of a list written in order: the definition, and its laws over any element type.
-use mathlib.Core.Path.{_≡_, refl, ap, _∙_}
+use mathlib.Core.Path.{_≡_, refl, _∙_}
 use mathlib.Core.Logic.{⊎-elim}
 use mathlib.Core.List.{List}
 use Prim.Native.Nat.{ℕ, zero, suc, _+_, _≤_, _<_}
-use native.Mathlib.Nat.{add-assoc, eq-or-lt-of-le, le-of-suc-le-suc, add-zero, add-suc, not-suc-le-zero}
+use native.Mathlib.Nat.{eq-or-lt-of-le, le-of-suc-le-suc, not-suc-le-zero}
 use native.Mathlib.Numerals.{add-one}
 use native.Mathlib.Omega.{arith}
 use lib.ListN.{length, getD, set, length-set}
@@ -75,12 +75,3 @@ module _ {A : Type 0} where
   pub kept-below :
       (l w : List A) (f : ℕ → A) (from n j : ℕ) (d : A) → w ≡ write l from n f → j < from → getD w j d ≡ getD l j d
   kept-below l w f from n j d e h = rw e (write-below l from n j f d h)
-
-  -- two ranges in a row are one
-  pub write-join :
-      (l : List A) (from m n : ℕ) (f : ℕ → A) →
-      write (write l from m f) (from + m) n (λ k. f (m + k)) ≡ write l from (m + n) f
-  unfolding write
-  write-join l from m zero f = rw add-zero
-  write-join l from m (suc n) f =
-      rw (add-suc, add-assoc) (ap (λ (w : List A). set w (from + (m + n)) (f (m + n))) (write-join l from m n f))

@@ -6,9 +6,9 @@ use lib.Ieee.{Float}
 use lib.ListN.{length}
 use Rattle.definition.specs.FactorGraph.{Bale}
 use Rattle.definition.specs.Run.{Ending, limit, settled, empty}
-use Rattle.definition.specs.Answer.{endingNumber, endingResidual}
 use Rattle.definition.specs.Text.{ascii}
 use Rattle.definition.specs.Listing.{decimal, hex, line, partFields, baleLine}
+use Rattle.claims.specs.CallByParts.{endingOf}
 use Rattle.listing.specs.Writing.{Written, field, Fields, next-field}
 
 -- the first line, of its three counts
@@ -24,18 +24,7 @@ pub counts-line : (b : Bale) (grades markers pairs : ℕ) → Counts b grades ma
 unfolding baleLine
 counts-line b grades markers pairs c = rw (c .grades-are, c .markers-are, c .pairs-are)
 
--- an ending from its number and its residual
-abbrev pub endingOf : ℕ → Float → Ending
-endingOf zero r = limit r
-endingOf (suc zero) r = settled r
-endingOf (suc (suc n)) r = empty
-
-pub ending-back : (e : Ending) → endingOf (endingNumber e) (endingResidual e) ≡ e
-unfolding endingNumber endingResidual
-ending-back (limit r) = refl
-ending-back (settled r) = refl
-ending-back empty = refl
-
+-- an ending's third number
 pub ending-empty : (n : ℕ) (r : Float) → (n ≡ 0 → ⊥) → (n ≡ 1 → ⊥) → endingOf n r ≡ empty
 ending-empty zero r h k = absurd (h refl)
 ending-empty (suc zero) r h k = absurd (k refl)

@@ -1,15 +1,17 @@
 -- The parts of an answer as they stand in its four slices, and their lines one after the other.
 use mathlib.Core.Path.{_≡_, refl, sym, ap, _∙_, subst}
-use mathlib.Core.List.{List, [], _∷_, _++_, append-assoc}
+use mathlib.Core.List.{List, [], _∷_, _++_}
 use Prim.Native.Nat.{ℕ, _+_, _*_, _≤_}
 use native.Mathlib.Omega.{arith}
 use lib.Ieee.{Float, nan}
 use lib.ListN.{length, getD, take, drop, length-append}
 use Rattle.graph_laws.specs.Lists.{All, All-left, All-right}
-use Rattle.graph_laws.specs.AnswerSizes.{TwoFloats, numbers-length, floats-length}
-use Rattle.definition.specs.Answer.{Belief, PartAnswer, endingNumber, endingResidual, answeredBeliefs, beliefNumbers, beliefFloats, endingNumbers, endingFloats}
+use Rattle.graph_laws.specs.AnswerSizes.{TwoFloats, numbers-length, floats-append, floats-length}
+use Rattle.graph_laws.specs.ReadBack.{ending-back, numbers-append}
+use Rattle.claims.specs.CallByParts.{endingOf}
+use Rattle.definition.specs.Answer.{PartAnswer, endingNumber, endingResidual, answeredBeliefs, beliefNumbers, beliefFloats, endingNumbers, endingFloats}
 use Rattle.definition.specs.Listing.{partLines}
-use Rattle.listing.specs.Lines.{endingOf, ending-back, headLine}
+use Rattle.listing.specs.Lines.{headLine}
 use Rattle.listing.specs.Beliefs.{IsNumber, Beliefs}
 use Rattle.listing.specs.Front.{Begins, begins-split, begins-long, begins-first, begins-rest}
 
@@ -32,18 +34,6 @@ pub record PartsFit (ps : List PartAnswer) (grades : List ℕ) (values : List Fl
 pub record SomeParts (grades : List ℕ) (values : List Float) (endings : List ℕ) (residuals : List Float) (count at size : ℕ) : Type 0 where
   pub parts : List PartAnswer
   pub good : PartsFit parts grades values endings residuals count at size
-
--- ---- lists of beliefs
-
-pub numbers-append : (bs cs : List Belief) → beliefNumbers (bs ++ cs) ≡ beliefNumbers bs ++ beliefNumbers cs
-unfolding beliefNumbers
-numbers-append [] cs = refl
-numbers-append (b ∷ bs) cs = ap (λ (l : List ℕ). b .grade ∷ l) (numbers-append bs cs)
-
-floats-append : (bs cs : List Belief) → beliefFloats (bs ++ cs) ≡ beliefFloats bs ++ beliefFloats cs
-unfolding beliefFloats
-floats-append [] cs = refl
-floats-append (b ∷ bs) cs = ap (λ (l : List Float). b .value ++ l) (floats-append bs cs) ∙ sym (append-assoc (b .value) (beliefFloats bs) (beliefFloats cs))
 
 -- ---- the first of the parts
 

@@ -11,7 +11,8 @@ use Rattle.definition.specs.Run.{Ending}
 use Rattle.definition.specs.Answer.{Belief, PartAnswer}
 use Rattle.definition.specs.Listing.{beliefLines, partLines}
 use Rattle.listing.specs.Writing.{Written, Left, left-all, left-next, left-none, written-next, written-is, written-long}
-use Rattle.listing.specs.Lines.{endingOf, headLine}
+use Rattle.claims.specs.CallByParts.{endingOf}
+use Rattle.listing.specs.Lines.{headLine}
 use Rattle.listing.specs.Beliefs.{IsNumber, BeliefsFit, getD-first}
 use Rattle.listing.specs.Parts.{Parts, PartsFit, headOf, first-part}
 

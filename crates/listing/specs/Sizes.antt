@@ -20,7 +20,7 @@ use Rattle.definition.specs.Listing.{decimal, hex, line, partFields, beliefLine
 use Rattle.listing.specs.Writing.{line-length}
 use Rattle.listing.specs.Digits.{decimal-digit, decimal-longer, hex-length}
 use Rattle.listing.specs.Lines.{headLine}
-use Rattle.listing.specs.Parts.{numbers-append}
+use Rattle.graph_laws.specs.ReadBack.{numbers-append}
 
 -- a number that a u32 holds
 abbrev Small : ℕ → Type 0

@@ -15,7 +15,7 @@ use Rattle.definition.specs.Settings.{Settings}
 use Rattle.definition.specs.FactorGraph.{Evidence, Bale, input}
 use Rattle.definition.specs.Messages.{initialBelief}
 use Rattle.definition.specs.Refusals.{Buffers, outside, leastProbability, greatestProbability, leastEvidence, badEvidence, lowestPlaceFrom, lowestPlace, Verdict, accepted, refused, orRefused, verdict}
-use Rattle.message_bounds.specs.Bounded.{BoundedEntry, Bounded, InRange}
+use Rattle.message_bounds.specs.Bounded.{BoundedEntry, BoundedEntries, InRange}
 
 -- ---- a test that found nothing
 passed : (n : ℕ) (o : Option ℕ) (v : Verdict) → orRefused n o v ≡ accepted → (o ≡ none) × (v ≡ accepted)
@@ -74,14 +74,14 @@ module _ (s : Settings) (f : Buffers) (b : Bale) (A : verdict s f b ≡ accepted
         prior = record { holds = h .prior; inside = inside leastProbability greatestProbability (s .prior) (t .1 .1 .0) };
       }
 
-  pub evidence-bounded : AllEvidence EvidenceFits (b .markers) → AllEvidence (λ e. Bounded (initialBelief s (input e))) (b .markers)
+  pub evidence-bounded : AllEvidence EvidenceFits (b .markers) → AllEvidence (λ e. BoundedEntries (initialBelief s (input e))) (b .markers)
   unfolding initialBelief badEvidence
   evidence-bounded h = go (b .markers) (third .1) h
     where
       entry-of : (x : Float) → T (fits binary32 x) → T (not (outside leastEvidence oneᶠ x)) → BoundedEntry x
       entry-of x t u = record { holds = t; inside = in-wider c oneᶠ (inside leastEvidence oneᶠ x u) (unfold le in tt) }
 
-      go : (es : List Evidence) → AllFalse (map badEvidence es) → AllEvidence EvidenceFits es → AllEvidence (λ e. Bounded (initialBelief s (input e))) es
+      go : (es : List Evidence) → AllFalse (map badEvidence es) → AllEvidence EvidenceFits es → AllEvidence (λ e. BoundedEntries (initialBelief s (input e))) es
       go [] t h = tt
       go (e ∷ es) t h =
           let n = neither (outside leastEvidence oneᶠ (e .absent)) (outside leastEvidence oneᶠ (e .present)) (t .0) in

@@ -1,7 +1,7 @@
 -- One amount after k steps: at most 128 for each step and one more, and never above 2 ^ 31. A residual more keeps it so, for 2 ^ 31 + 128 rounds to 2 ^ 31.
 use mathlib.Core.Path.{_≡_, sym, subst}
 use mathlib.Core.Bool.{Bool, true, false, not}
-use Prim.Native.Nat.{ℕ, suc, _+_, _*_, _≤_, _<_, _^_, min}
+use Prim.Native.Nat.{ℕ, suc, _+_, _*_, _≤_, _<_, min}
 use native.Mathlib.Nat.{min-eq-left, min-eq-right, min-le-left, min-le-right, le-min}
 use native.Mathlib.Omega.{arith}
 use lib.Dec.{T, ltb, ltb→lt, nltb→le}
@@ -14,7 +14,7 @@ use Rattle.float_laws.specs.Interval.{In, add-test, add-in}
 use Rattle.float_laws.specs.Sums.{ofNat}
 use Rattle.float_laws.specs.Totals.{clear-add}
 use Rattle.float_laws.specs.Scaled.{exact-multiple, whole-rises, sum-under}
-use Rattle.definition.specs.Floats.{_⊕_, zeroᶠ, largestFinite}
+use Rattle.definition.specs.Floats.{_⊕_, largestFinite}
 use Rattle.message_bounds.specs.Residuals.{Small, small-in, small-finite, largestResidual}
 
 -- the steps and one more, counted to 2 ^ 24
@@ -84,10 +84,3 @@ amount-add k x r h g =
 
     at-top : In zeroᶠ (ofNat 2147483648) x → T (le (x ⊕ r) (ofNat 2147483648))
     at-top i = add-in zeroᶠ (ofNat 2147483648) i (small-in largestResidual r g) (unfold add-test ofInt in tt) .high
-
--- ---- in plain numbers: at most 128 times one more than the steps, and at most 2 ^ 31
-pub amount-steps : (k : ℕ) (x : Float) → Amount k x → T (le x (ofNat (suc k * 128)))
-amount-steps k x h = le-trans-at x (most k) (ofNat (suc k * 128)) (h .small) (whole-rises (counted k * 128) (suc k * 128) (omega (arith, min-le-left (suc k) 16777216)))
-
-pub amount-top : (k : ℕ) (x : Float) → Amount k x → T (le x (ofNat (2 ^ 31)))
-amount-top k x h = le-trans-at x (most k) (ofNat (2 ^ 31)) (h .small) (most-top k)

@@ -29,7 +29,7 @@ use Rattle.claims.specs.Parts.{AcceptedPart}
 use Rattle.graph_laws.specs.Structure.{within-kept}
 use Rattle.message_bounds.specs.Residuals.{Small, largestResidual, residual-small}
 use Rattle.message_bounds.specs.AmountBounds.{most, Amount, most-finite, residual-low, wider, later, zero-amount, amount-add}
-use Rattle.message_bounds.specs.OutgoingApart.{Apart, components-apart}
+use Rattle.message_bounds.specs.OutgoingApart.{Apart, part-outgoing-apart}
 use Rattle.message_bounds.specs.Answers.{in-answer}
 
 -- ---- what is pending: after k steps, direction by direction
@@ -223,12 +223,8 @@ module _ (s : Settings) (f : Buffers) (b : Bale) (n : ℕ) (p : List Node) (h : 
   its = messageGraphOf b p
 
   -- After any list of events that begins with the opening, and from any state: what is pending for each direction, what waits, and the last amount.
-  pub amounts : (es : List Event) (x : State) → BoundedState s its (within-kept s f b n p h .sound) (components-apart s f b n p h) (stateAfter s its (opened ∷ es) x)
-  amounts = bounded-after s its (within-kept s f b n p h .sound) (components-apart s f b n p h)
-
-  -- and the residual of each direction
-  pub residuals : (es : List Event) (x : State) (d : ℕ) → Small largestResidual (residual its (stateAfter s its (opened ∷ es) x .store .msgIn) (stateAfter s its (opened ∷ es) x .store .msgInLog) d)
-  residuals es x d = let g = amounts es x .store in residual-small its _ _ d (g .msgIn) (g .msgInLog)
+  pub amounts : (es : List Event) (x : State) → BoundedState s its (within-kept s f b n p h .sound) (part-outgoing-apart s f b n p h) (stateAfter s its (opened ∷ es) x)
+  amounts = bounded-after s its (within-kept s f b n p h .sound) (part-outgoing-apart s f b n p h)
 
   -- after the events of a run of m steps
   pub run-amounts : (m : ℕ) (x : State) (d : ℕ) → Amount m (getD (stateAfter s its (events m) x .pending) d zeroᶠ) × Waits m (getD (stateAfter s its (events m) x .priorities) d none)
@@ -243,4 +239,4 @@ pub endings-bounded : (s : Settings) (f : Buffers) (b : Bale) → verdict s f b 
 endings-bounded s f b A = in-answer (λ q. Small largestFinite (endingResidual (q .ending))) s f b (λ n p h. ending n p h) A
   where
     ending : (n : ℕ) (p : List Node) → AcceptedPart s f b n p → Small largestFinite (endingResidual (partAnswer s n p (messageGraphOf b p) .ending))
-    ending n p h = unfold partAnswer in run-bounded s (messageGraphOf b p) (within-kept s f b n p h .sound) (components-apart s f b n p h)
+    ending n p h = unfold partAnswer in run-bounded s (messageGraphOf b p) (within-kept s f b n p h .sound) (part-outgoing-apart s f b n p h)

@@ -12,7 +12,6 @@ use lib.Ieee.Scale.{finite}
 use Rattle.float_laws.specs.Laws.{zeroᶠ, oneᶠ}
 use Rattle.float_laws.specs.Interval.{In, in-finite, add-test, add-in}
 use Rattle.float_laws.specs.Sums.{minus32, ofNat}
-use Rattle.definition.specs.Floats.{zeroᶠ}
 use Rattle.definition.specs.Vectors.{Message, entry, sumOf}
 use Rattle.definition.specs.Settings.{Settings}
 use Rattle.definition.specs.FactorGraph.{Bale, Node, gradeNode, factorNode, inputNode, treeNode, eqNode, Edge, builtGraph, Kind, grade, kindOf}
@@ -27,8 +26,8 @@ use Rattle.graph_laws.specs.Lists.{All}
 use Rattle.graph_laws.specs.Events.{run-events}
 use Rattle.graph_laws.specs.Sending.{Goods, MessageNodeKept, MessageGraphKept, messagesIn-in-force}
 use Rattle.claims.specs.Parts.{AcceptedPart}
-use Rattle.graph_laws.specs.Structure.{components-kept}
-use Rattle.message_bounds.specs.Bounded.{Bounded, InRange, prior-bounded}
+use Rattle.graph_laws.specs.Structure.{part-graph-kept}
+use Rattle.message_bounds.specs.Bounded.{BoundedEntries, InRange, prior-bounded}
 use Rattle.message_bounds.specs.Variable.{shares, ln-wide, entry-fits, all-in}
 use Rattle.claims.specs.Parts.{SettingsFit, EvidenceFits, AllEvidence}
 use Rattle.message_bounds.specs.Accepted.{settings-in-range, evidence-bounded}
@@ -45,13 +44,13 @@ pub unit-finite : (x : Float) → UnitValue x → T (finite x)
 unit-finite x h = in-finite (h .inside) tt
 
 -- ---- a belief of what is held: the two sums of logarithms are finite
-log-finite : (k : ℕ) (b : Message) (ms : List Message) → length ms ≤ 1024 → Bounded b → Goods Bounded ms → T (finite (logMarginal k b ms))
+log-finite : (k : ℕ) (b : Message) (ms : List Message) → length ms ≤ 1024 → BoundedEntries b → Goods BoundedEntries ms → T (finite (logMarginal k b ms))
 unfolding logMarginal sumOf
 log-finite k b ms h g w =
     let z : In (minus32 0) (ofNat 0) zeroᶠ = record { low = unfold le neg ofInt in tt; high = unfold le ofInt in tt } in
     in-finite (add-in (fin true 200000 (pos 0)) (fin false 200000 (pos 0)) (ln-wide (entry k b) (entry-fits k b g)) (all-in k 0 zeroᶠ ms (omega arith) z w) (unfold add-test neg ofInt in tt)) tt
 
-pub belief-in-unit : (b : Message) (ms : List Message) → length ms ≤ 1024 → Bounded b → Goods Bounded ms → All UnitValue (marginal b ms)
+pub belief-in-unit : (b : Message) (ms : List Message) → length ms ≤ 1024 → BoundedEntries b → Goods BoundedEntries ms → All UnitValue (marginal b ms)
 unfolding marginal
 belief-in-unit b ms h g w =
     shares (logMarginal 0 b ms) (logMarginal 1 b ms) (log-finite 0 b ms h g w) (log-finite 1 b ms h g w) (All UnitValue)
@@ -76,11 +75,11 @@ matched b p = matched-from b (subgraphOf b p) (firstsIncoming 0 (subgraphOf b p 
 abbrev pub UnitValues : Belief → Type 0
 UnitValues x = All UnitValue (x .value)
 
-module _ (s : Settings) (b : Bale) (r : InRange s) (t : MessageGraph) (N : MessageGraphKept Bounded s t) (es : List Event) (y : State) where
+module _ (s : Settings) (b : Bale) (r : InRange s) (t : MessageGraph) (N : MessageGraphKept BoundedEntries s t) (es : List Event) (y : State) where
   abbrev now : List Message
   now = stateAfter s t (opened ∷ es) y .store .msgIn
 
-  beliefs-in : (ns : List Node) (xs : List MessageNode) → Matched b ns xs → All (λ x. MessageNodeKept Bounded t s (x .kind) x) xs → All UnitValues (beliefsAmong s now ns xs)
+  beliefs-in : (ns : List Node) (xs : List MessageNode) → Matched b ns xs → All (λ x. MessageNodeKept BoundedEntries t s (x .kind) x) xs → All UnitValues (beliefsAmong s now ns xs)
   unfolding beliefsAmong
   beliefs-in [] xs m k = tt
   beliefs-in (gradeNode g ∷ ns) [] m k = tt
@@ -88,7 +87,7 @@ module _ (s : Settings) (b : Bale) (r : InRange s) (t : MessageGraph) (N : Messa
   beliefs-in (inputNode g ∷ ns) [] m k = tt
   beliefs-in (treeNode g ∷ ns) [] m k = tt
   beliefs-in (gradeNode g ∷ ns) (x ∷ xs) m k =
-      let h = messagesIn-in-force Bounded s t (keeps s r) N es y x (subst (λ (z : Kind). MessageNodeKept Bounded t s z x) (m .0) (k .0)) in
+      let h = messagesIn-in-force BoundedEntries s t (keeps s r) N es y x (subst (λ (z : Kind). MessageNodeKept BoundedEntries t s z x) (m .0) (k .0)) in
       (belief-in-unit (initialBelief s grade) (messagesIn x now) (h .0) (prior-bounded s r) (h .1), beliefs-in ns xs (m .1) (k .1))
   beliefs-in (factorNode g ∷ ns) (x ∷ xs) m k = beliefs-in ns xs (m .1) (k .1)
   beliefs-in (inputNode g ∷ ns) (x ∷ xs) m k = beliefs-in ns xs (m .1) (k .1)
@@ -100,7 +99,7 @@ unfolding partAnswer events openingAndSweeps
 part-beliefs s f b t e n p h =
     let w = messageGraphOf b p in
     let r = settings-in-range s f b (h .accepts) t in
-    let N : MessageGraphKept Bounded s w = components-kept Bounded s f b n p h (all-of _ (b .markers) (evidence-bounded s f b (h .accepts) e)) in
+    let N : MessageGraphKept BoundedEntries s w = part-graph-kept BoundedEntries s f b n p h (all-of _ (b .markers) (evidence-bounded s f b (h .accepts) e)) in
     let x₀ = beginLoop s w (opening s w) in
     subst (λ (x : State). All UnitValues (beliefsAmong s (x .store .msgIn) p (w .nodes))) (sym (run-events s w x₀))
     (beliefs-in s b r w N _ x₀ p (w .nodes) (matched b p) (N .nodes))

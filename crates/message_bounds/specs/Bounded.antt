@@ -13,7 +13,7 @@ use Rattle.float_laws.specs.Laws.{zeroᶠ, oneᶠ}
 use Rattle.float_laws.specs.Interval.{In, in-self, in-number, in-wider, raised-in, sub-test, sub-in}
 use Rattle.float_laws.specs.Totals.{AtMost, AllAtMost, atMost-in}
 use Rattle.float_laws.specs.Sums.{one-is}
-use Rattle.definition.specs.Floats.{c, oneᶠ, halfᶠ, _⊖_, avoidUnderflow, clamp}
+use Rattle.definition.specs.Floats.{c, halfᶠ, _⊖_, avoidUnderflow, clamp}
 use Rattle.definition.specs.Vectors.{Message, binary, avoidUnderflowAll}
 use Rattle.definition.specs.Settings.{Settings}
 use Rattle.definition.specs.FactorGraph.{grade}
@@ -33,11 +33,11 @@ pub record BoundedEntry (x : Float) : Type 0 where
   pub holds : T (fits binary32 x)
   pub inside : In c oneᶠ x
 
-abbrev pub Bounded : Message → Type 0
-Bounded [] = Unit {0}
-Bounded (x ∷ m) = BoundedEntry x × Bounded m
+abbrev pub BoundedEntries : Message → Type 0
+BoundedEntries [] = Unit {0}
+BoundedEntries (x ∷ m) = BoundedEntry x × BoundedEntries m
 
-pub within-of : (m : Message) → Bounded m → Within m
+pub within-of : (m : Message) → BoundedEntries m → Within m
 within-of [] h = tt
 within-of (x ∷ m) h = (and-i (le c x) (le x oneᶠ) (h .0 .inside .low) (h .0 .inside .high), within-of m (h .1))
 
@@ -64,17 +64,17 @@ ranged-entry x r = record { holds = r .holds; inside = in-wider c oneᶠ (r .ins
 one-entry : BoundedEntry oneᶠ
 one-entry = record { holds = unfold fits in tt; inside = record { low = unfold le in tt; high = unfold le in tt } }
 
-pub ones-bounded : (n : ℕ) → Bounded (replicate n oneᶠ)
+pub ones-bounded : (n : ℕ) → BoundedEntries (replicate n oneᶠ)
 ones-bounded zero = tt
 ones-bounded (suc n) = (one-entry, ones-bounded n)
 
 half-entry : BoundedEntry halfᶠ
 half-entry = record { holds = unfold fits in tt; inside = record { low = unfold le in tt; high = unfold le in tt } }
 
-pub halves-bounded : Bounded (binary halfᶠ halfᶠ)
+pub halves-bounded : BoundedEntries (binary halfᶠ halfᶠ)
 halves-bounded = (half-entry, (half-entry, tt))
 
-pub prior-bounded : (s : Settings) → InRange s → Bounded (initialBelief s grade)
+pub prior-bounded : (s : Settings) → InRange s → BoundedEntries (initialBelief s grade)
 unfolding initialBelief
 prior-bounded s r = (ranged-entry (oneᶠ ⊖ s .prior) (rest-ranged (s .prior) (r .prior)), (ranged-entry (s .prior) (r .prior), tt))
 
@@ -82,10 +82,6 @@ prior-bounded s r = (ranged-entry (oneᶠ ⊖ s .prior) (rest-ranged (s .prior) 
 c-fits : T (fits binary32 c)
 unfolding fits
 c-fits = tt
-
-one-fits : T (fits binary32 oneᶠ)
-unfolding fits
-one-fits = tt
 
 pub avoidUnderflow-entry : (x : Float) → T (fits binary32 x) → In zeroᶠ oneᶠ x → BoundedEntry (avoidUnderflow x)
 unfolding avoidUnderflow
@@ -104,11 +100,11 @@ clamp-entry x t i = go (lt oneᶠ x)
 pub atMost-range : (x : Float) → AtMost 1 x → In zeroᶠ oneᶠ x
 atMost-range x n = subst (λ (z : Float). In zeroᶠ z x) one-is (atMost-in 1 x n)
 
-pub avoidUnderflow-bounded : (l : List Float) → AllAtMost 1 l → Bounded (avoidUnderflowAll l)
+pub avoidUnderflow-bounded : (l : List Float) → AllAtMost 1 l → BoundedEntries (avoidUnderflowAll l)
 unfolding avoidUnderflowAll
 avoidUnderflow-bounded [] n = tt
 avoidUnderflow-bounded (x ∷ l) n = (avoidUnderflow-entry x (n .0 .held) (atMost-range x (n .0)), avoidUnderflow-bounded l (n .1))
 
-pub clamped-bounded : (l : List Float) → AllAtMost 1 l → Bounded (map clamp l)
+pub clamped-bounded : (l : List Float) → AllAtMost 1 l → BoundedEntries (map clamp l)
 clamped-bounded [] n = tt
 clamped-bounded (x ∷ l) n = (clamp-entry x (n .0 .held) (atMost-range x (n .0)), clamped-bounded l (n .1))

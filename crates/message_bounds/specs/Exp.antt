@@ -15,7 +15,7 @@ use Rattle.float_laws.specs.Interval.{In, in-self, in-finite, add-test, add-in,
 use Rattle.float_laws.specs.Sums.{ofNat, whole-mono}
 use Rattle.float_laws.specs.Patterns.{whole-part-le, whole-part-ge, whole-part-lt}
 use Rattle.float_laws.specs.Table.{upto, upto-at, is-false}
-use Rattle.definition.specs.Floats.{_⊕_, _⊗_, _⊘_, ln2, log2e, minus87, ofNat, ratio, expSeries, expReduced, exp}
+use Rattle.definition.specs.Floats.{_⊕_, _⊗_, _⊘_, ln2, log2e, minus87, ratio, expSeries, expReduced, exp}
 
 -- ---- y between -87 and 0, and how often the exponential is halved
 abbrev pub halvings : Float → ℕ
@@ -87,17 +87,17 @@ low-test n = finite (low-of (suc n)) && lt (low-of (suc n) ⊗ log2e) (fin false
 rest-test : ℕ → Bool
 rest-test n = finite (back-of n) && add-test rest-low (rest-high n) (neg (high-of n)) (neg (low-of n)) (back-of n) (back-of n)
 
-highs-updateKind : T (upto high-test 127)
+highs-pass : T (upto high-test 127)
 unfolding high-test mul ofInt le
-highs-updateKind = tt
+highs-pass = tt
 
-lows-updateKind : T (upto low-test 126)
+lows-pass : T (upto low-test 126)
 unfolding low-test mul ofInt lt
-lows-updateKind = tt
+lows-pass = tt
 
-rests-updateKind : T (upto rest-test 127)
+rests-pass : T (upto rest-test 127)
 unfolding rest-test add-test mul ofInt neg
-rests-updateKind = tt
+rests-pass = tt
 
 pos-log : T (le zeroᶠ log2e)
 unfolding le
@@ -107,14 +107,14 @@ pos-log = tt
 half-test : ℕ → Bool
 half-test m = le zeroᶠ (ratio 1 (2 ^ suc m)) && le (ratio 1 (2 ^ suc m)) (fin false 1 (negsuc 0))
 
-halves-updateKind : T (upto half-test 126)
+halves-pass : T (upto half-test 126)
 unfolding half-test le round
-halves-updateKind = tt
+halves-pass = tt
 
 half-in : (m : ℕ) → m < 126 → In zeroᶠ (fin false 1 (negsuc 0)) (ratio 1 (2 ^ suc m))
 unfolding half-test
 half-in m h =
-    let t = upto-at half-test 126 halves-updateKind m h in
+    let t = upto-at half-test 126 halves-pass m h in
     let a = le zeroᶠ (ratio 1 (2 ^ suc m)) in
     let b = le (ratio 1 (2 ^ suc m)) (fin false 1 (negsuc 0)) in
     record { low = and-l a b t; high = and-r a b t }
@@ -129,7 +129,7 @@ module _ (y : Float) (i : In minus87 zeroᶠ y) where
   under-high : (n : ℕ) → n ≤ 126 → halvings y ≡ n → T (le (neg y) (high-of n))
   unfolding high-test
   under-high n k e =
-      let t = upto-at high-test 127 highs-updateKind n (omega arith) in
+      let t = upto-at high-test 127 highs-pass n (omega arith) in
       let g = le (fin false (suc n) (pos 0)) (high-of n ⊗ log2e) in
       let f = and-l (finite (high-of n)) g t in
       ⊎-elim (λ (l : T (le (neg y) (high-of n))). l)
@@ -145,7 +145,7 @@ module _ (y : Float) (i : In minus87 zeroᶠ y) where
   over-low : (n : ℕ) → suc n ≤ 126 → halvings y ≡ suc n → T (le (low-of (suc n)) (neg y))
   unfolding low-test
   over-low n k e =
-      let t = upto-at low-test 126 lows-updateKind n k in
+      let t = upto-at low-test 126 lows-pass n k in
       let g = lt (low-of (suc n) ⊗ log2e) (fin false (suc n) (pos 0)) in
       let f = and-l (finite (low-of (suc n))) g t in
       ⊎-elim (λ (l : T (le (low-of (suc n)) (neg y))). l)
@@ -168,7 +168,7 @@ module _ (y : Float) (i : In minus87 zeroᶠ y) where
   rest-in : (n : ℕ) → n ≤ 126 → halvings y ≡ n → In rest-low (rest-high n) (y ⊕ back-of n)
   unfolding rest-test
   rest-in n k e =
-      let t = upto-at rest-test 127 rests-updateKind n (omega arith) in
+      let t = upto-at rest-test 127 rests-pass n (omega arith) in
       let a = add-test rest-low (rest-high n) (neg (high-of n)) (neg (low-of n)) (back-of n) (back-of n) in
       let j : In (neg (high-of n)) (neg (low-of n)) y = record { low = y-above n k e; high = y-below n k e } in
       add-in rest-low (rest-high n) j (in-self (back-of n) (finite-number (back-of n) (and-l (finite (back-of n)) a t))) (and-r (finite (back-of n)) a t)

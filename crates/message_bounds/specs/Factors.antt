@@ -17,16 +17,16 @@ use Rattle.float_laws.specs.Interval.{In, in-self, in-number, in-finite, in-pos
 use Rattle.float_laws.specs.Sums.{sumFrom, ofNat, whole-mono, one-is, sum-above, sum-positive, sum-in}
 use Rattle.float_laws.specs.Error.{val32}
 use Rattle.float_laws.specs.Totals.{AtMost, AllAtMost, atMost-finite, atMost-each, atMost-at, clear-low, div-units, sum-fits}
-use Rattle.definition.specs.Floats.{_⊕_, _⊖_, _⊗_, _⊘_, zeroᶠ, oneᶠ, avoidUnderflow, clamp, ofNat, powi}
+use Rattle.definition.specs.Floats.{_⊕_, _⊖_, _⊗_, _⊘_, avoidUnderflow, clamp, powi}
 use Rattle.definition.specs.Lists.{range}
-use Rattle.definition.specs.Vectors.{Message, entry, sumFrom, normalize}
+use Rattle.definition.specs.Vectors.{Message, entry, sumOf, normalize}
 use Rattle.definition.specs.Settings.{Settings}
 use Rattle.definition.specs.NoisyOr.{CpdRow, cpdAbsent, cpdAbsentRegularised, cpdRow, cpdRows, cpdTable}
 use Rattle.definition.specs.Messages.{outMessageFactor}
 use Rattle.definition.specs.Refusals.{leastProbability, greatestProbability}
 use Rattle.graph_laws.specs.MessageLengths.{length-count}
-use Rattle.message_bounds.specs.Bounded.{BoundedEntry, Bounded, Ranged, InRange, rest-ranged, atMost-range, clamped-bounded}
-use Rattle.message_bounds.specs.Normalized.{atMost-of, entry-atMost, ranged-atMost, atMost-add, atMost-times, atMost-quotient, powi-atMost, avoidUnderflow-atMost, avoidUnderflow-grows, sumOf-zero-is, normal-atMost}
+use Rattle.message_bounds.specs.Bounded.{BoundedEntry, BoundedEntries, Ranged, InRange, rest-ranged, atMost-range, clamped-bounded}
+use Rattle.message_bounds.specs.Normalized.{atMost-of, entry-atMost, ranged-atMost, atMost-add, atMost-times, atMost-quotient, powi-atMost, avoidUnderflow-atMost, avoidUnderflow-grows, normal-atMost}
 
 -- ---- a row's first entry: at most 1023/1024
 pub record Source (x : Float) : Type 0 where
@@ -173,7 +173,7 @@ module _ (floor : Float → Float) (keep : (x : Float) → AtMost 1 x → AtMost
   abbrev out : List CpdRow → Float → List Float
   out ws t = map (mix a b) (map (share floor t) ws)
 
-  some-bounded : (w : CpdRow) (ws : List CpdRow) → length (w ∷ ws) ≤ 129 → AllFine (w ∷ ws) → Bounded (map clamp (normalize (out (w ∷ ws) (sumFrom zeroᶠ (map both (w ∷ ws))))))
+  some-bounded : (w : CpdRow) (ws : List CpdRow) → length (w ∷ ws) ≤ 129 → AllFine (w ∷ ws) → BoundedEntries (map clamp (normalize (out (w ∷ ws) (sumFrom zeroᶠ (map both (w ∷ ws))))))
   some-bounded w ws h f =
       let vs = w ∷ ws in
       let xs = map both vs in
@@ -191,23 +191,23 @@ module _ (floor : Float → Float) (keep : (x : Float) → AtMost 1 x → AtMost
       let r : length (out vs t) * 2 ≤ 2 ^ 24 = omega (arith, length-map vs (share floor t), length-map (map (share floor t) vs) (mix a b)) in
       clamped-bounded (normalize (out vs t)) (normal-atMost 2 (out vs t) r (lit≤ tt) z (sum-positive 2 (out vs t) 0 least-mix r (atMost-each 2 (out vs t) z) (omega arith) (unfold fits in tt) tt o))
 
-  cpdRows-bounded : (ws : List CpdRow) → length ws ≤ 129 → AllFine ws → Bounded (map clamp (normalize (out ws (sumFrom zeroᶠ (map both ws)))))
+  cpdRows-bounded : (ws : List CpdRow) → length ws ≤ 129 → AllFine ws → BoundedEntries (map clamp (normalize (out ws (sumFrom zeroᶠ (map both ws)))))
   unfolding normalize
   cpdRows-bounded [] h f = tt
-  cpdRows-bounded (w ∷ ws) h f = subst (λ (t : Float). Bounded (map clamp (normalize (out (w ∷ ws) t)))) (sym (sumOf-zero-is (map both (w ∷ ws)))) (some-bounded w ws h f)
+  cpdRows-bounded (w ∷ ws) h f = some-bounded w ws h f
 
 -- ---- a message of two entries
-first-atMost : (m : Message) → length m ≡ 2 → Bounded m → AtMost 1 (entry 0 m)
+first-atMost : (m : Message) → length m ≡ 2 → BoundedEntries m → AtMost 1 (entry 0 m)
 first-atMost [] l h = absurd (let z : ⊥ = omega arith in z)
 first-atMost (x ∷ m) l h = entry-atMost x (h .0)
 
-second-entry : (m : Message) → length m ≡ 2 → Bounded m → BoundedEntry (entry 1 m)
+second-entry : (m : Message) → length m ≡ 2 → BoundedEntries m → BoundedEntry (entry 1 m)
 second-entry [] l h = absurd (let z : ⊥ = omega arith in z)
 second-entry (x ∷ []) l h = absurd (let z : ⊥ = omega arith in z)
 second-entry (x ∷ y ∷ m) l h = h .1 .0
 
-pub factors-bounded : (s : Settings) → InRange s → (d : ℕ) (m : Message) → d ≤ 129 → length m ≡ 2 → Bounded m → Bounded (outMessageFactor s d m)
-unfolding outMessageFactor cpdTable cpdRows
+pub factors-bounded : (s : Settings) → InRange s → (d : ℕ) (m : Message) → d ≤ 129 → length m ≡ 2 → BoundedEntries m → BoundedEntries (outMessageFactor s d m)
+unfolding outMessageFactor cpdTable cpdRows sumOf
 factors-bounded s r d m k l h = go (s .regularised)
   where
     made : (source : ℕ → Float) → List CpdRow
@@ -216,7 +216,7 @@ factors-bounded s r d m k l h = go (s .regularised)
     few : (source : ℕ → Float) → length (made source) ≤ 129
     few source = omega (arith, length-map (range 0 d) (λ (i : ℕ). cpdRow (source i)), length-count 0 d)
 
-    go : (x : Bool) → Bounded (map clamp (normalize (map (mix (entry 0 m) (entry 1 m)) (map (share (cond x avoidUnderflow (λ y. y)) (sumFrom zeroᶠ (map both (made (cond x (cpdAbsentRegularised s) (cpdAbsent s)))))) (made (cond x (cpdAbsentRegularised s) (cpdAbsent s)))))))
+    go : (x : Bool) → BoundedEntries (map clamp (normalize (map (mix (entry 0 m) (entry 1 m)) (map (share (cond x avoidUnderflow (λ y. y)) (sumFrom zeroᶠ (map both (made (cond x (cpdAbsentRegularised s) (cpdAbsent s)))))) (made (cond x (cpdAbsentRegularised s) (cpdAbsent s)))))))
     go true =
         cpdRows-bounded avoidUnderflow avoidUnderflow-atMost avoidUnderflow-grows (entry 0 m) (entry 1 m) (first-atMost m l h) (second-entry m l h) (made (cpdAbsentRegularised s)) (few (cpdAbsentRegularised s))
         (cpdRows-fine (cpdAbsentRegularised s) (regularised-source s r) 0 d (omega arith))

@@ -16,7 +16,7 @@ use Rattle.float_laws.specs.Products.{le→units}
 use Rattle.float_laws.specs.Tight.{AllUnder, sum-under, share-tight}
 use Rattle.definition.specs.Floats.{c, oneᶠ}
 use Rattle.definition.specs.Vectors.{Message}
-use Rattle.message_bounds.specs.Bounded.{BoundedEntry, Bounded}
+use Rattle.message_bounds.specs.Bounded.{BoundedEntry, BoundedEntries}
 use Rattle.message_bounds.specs.Normalized.{entry-atMost}
 
 -- ---- its entries
@@ -31,15 +31,15 @@ entry-under x e =
     ninth : (a u : ℕ) → a ≤ u → 8 * a ≤ 9 * u
     ninth a u h = omega arith
 
-bounded-under : (f : Message) → Bounded f → AllUnder (2 ^ 149) f
+bounded-under : (f : Message) → BoundedEntries f → AllUnder (2 ^ 149) f
 bounded-under [] h = tt
 bounded-under (x ∷ f) h = (entry-under x (h .0), bounded-under f (h .1))
 
-pub bounded-atMost : (f : Message) → Bounded f → AllAtMost 1 f
+pub bounded-atMost : (f : Message) → BoundedEntries f → AllAtMost 1 f
 bounded-atMost [] h = tt
 bounded-atMost (x ∷ f) h = (entry-atMost x (h .0), bounded-atMost f (h .1))
 
-pub bounded-positive : (f : Message) → 0 < length f → length f ≤ 1024 → Bounded f → T (positive (sumFrom zeroᶠ f))
+pub bounded-positive : (f : Message) → 0 < length f → length f ≤ 1024 → BoundedEntries f → T (positive (sumFrom zeroᶠ f))
 bounded-positive [] s k h = absurd (let z : ⊥ = omega arith in z)
 bounded-positive (x ∷ f) s k h =
     sum-positive 1 (x ∷ f) 0 c (omega arith) (atMost-each 1 (x ∷ f) (bounded-atMost (x ∷ f) h)) (omega arith) (unfold fits in tt) tt (h .0 .inside .low)
@@ -48,7 +48,7 @@ bounded-positive (x ∷ f) s k h =
 pub record HeldMessage (n : ℕ) (f : Message) : Type 0 where
   pub few : n ≤ 128
   pub long : length f ≡ suc n
-  pub bounded : Bounded f
+  pub bounded : BoundedEntries f
 
 abbrev pub shareOf : Message → Float → Float
 shareOf f x = div binary32 x (sumFrom zeroᶠ f)

@@ -15,14 +15,14 @@ use Rattle.float_laws.specs.Error.{val32, exactSum}
 use Rattle.float_laws.specs.Totals.{AtMost, AllAtMost, atMost-finite, atMost-each, atMost-at, sum-fits, shares-atMost}
 use Rattle.float_laws.specs.Products.{mul-near, largest, units-positive}
 use Rattle.float_laws.specs.Tight.{shares-one}
-use Rattle.definition.specs.Floats.{_⊗_, zeroᶠ, oneᶠ}
+use Rattle.definition.specs.Floats.{_⊗_, oneᶠ}
 use Rattle.definition.specs.Vectors.{Message, binary, normalize}
 use Rattle.definition.specs.ConvolutionTree.{convolve}
 use Rattle.graph_laws.specs.Convolution.{length-convolve, convolve-accumulates}
-use Rattle.message_bounds.specs.Bounded.{Bounded}
+use Rattle.message_bounds.specs.Bounded.{BoundedEntries}
 use Rattle.message_bounds.specs.Normalized.{one-atMost, atMost-times, normalize-is}
 use Rattle.message_bounds.specs.Held.{bounded-atMost, bounded-positive}
-use Rattle.message_bounds.specs.Zeros.{Zeros, zeros-all, zeros-share, live-cpdRows}
+use Rattle.message_bounds.specs.Zeros.{Zeros, zeros-all, zeros-share, live-rows}
 use Rattle.message_bounds.specs.Products.{convolve-atMost, convolve-reaches}
 
 -- a vector of n entries over r real leaves: a part in 64 about 1 in all, and nothing beyond entry r
@@ -71,8 +71,8 @@ module _ {n r s : ℕ} {a b : List Float} (A : Joint n r a) (B : Joint n s b) (f
       let m = largest x l in
       (m .0, m .1, large-enough (suc (length l)) (exactSum 0 (x ∷ l)) (val32 (getD (x ∷ l) (m .0) nan)) (2 ^ 149) (omega (arith, J .long)) (J .least) (m .2))
 
-  productOf-positive : (x y : Float) → AtMost 1 x → AtMost 1 y → 2 ^ 149 ≤ 128 * val32 x → 2 ^ 149 ≤ 128 * val32 y → T (positive (x ⊗ y))
-  productOf-positive x y p q g h =
+  product-positive : (x y : Float) → AtMost 1 x → AtMost 1 y → 2 ^ 149 ≤ 128 * val32 x → 2 ^ 149 ≤ 128 * val32 y → T (positive (x ⊗ y))
+  product-positive x y p q g h =
       let t = atMost-times x y p q in
       let f = atMost-finite 1 (x ⊗ y) (lit≤ tt) t in
       units-positive (x ⊗ y) (t .clear-sign) f
@@ -90,13 +90,13 @@ module _ {n r s : ℕ} {a b : List Float} (A : Joint n r a) (B : Joint n s b) (f
       let v = getD b (y .0) nan in
       sum-positive (length a) (convolve a b) (o .0) (u ⊗ v) (le-trans (mul-le-mul-left (length (convolve a b)) l) (omega (arith, length-convolve a b)))
       (atMost-each (length a) (convolve a b) k) (o .1) (mul-fits binary32 u v)
-      (productOf-positive u v (atMost-at 1 a (x .0) (A .nice) (x .1)) (atMost-at 1 b (y .0) (B .nice) (y .1)) (x .2) (y .2)) (o .2)
+      (product-positive u v (atMost-at 1 a (x .0) (A .nice) (x .1)) (atMost-at 1 b (y .0) (B .nice) (y .1)) (x .2) (y .2)) (o .2)
 
   convolve-zeros : Zeros (suc (r + s)) (convolve a b)
   convolve-zeros =
       let N = length a + length b - 1 in
       subst (Zeros (suc (r + s))) (sym (convolve-accumulates a b))
-      (live-cpdRows 0 (suc r) (suc s) (suc (r + s)) a b (replicate N zeroᶠ) (A .nice) (B .nice) (A .empty) (B .empty) (omega arith) (zeros-all (suc (r + s)) N))
+      (live-rows 0 (suc r) (suc s) (suc (r + s)) a b (replicate N zeroᶠ) (A .nice) (B .nice) (A .empty) (B .empty) (omega arith) (zeros-all (suc (r + s)) N))
 
   pub joined : Joint (n + n - 1) (r + s) (normalize (convolve a b))
   joined =
@@ -104,7 +104,7 @@ module _ {n r s : ℕ} {a b : List Float} (A : Joint n r a) (B : Joint n s b) (f
       (omega arith) (omega (arith, A .long)) (convolve-atMost a b (omega (arith, A .long)) (A .nice) (B .nice)) convolve-zeros convolve-positive
 
 -- ---- the leaves
-pub real-leaf : (m : Message) → length m ≡ 2 → Bounded m → Joint 2 1 (normalize m)
+pub real-leaf : (m : Message) → length m ≡ 2 → BoundedEntries m → Joint 2 1 (normalize m)
 real-leaf [] l h = absurd (let z : ⊥ = omega arith in z)
 real-leaf (x ∷ []) l h = absurd (let z : ⊥ = omega arith in z)
 real-leaf (x ∷ y ∷ z ∷ m) l h = absurd (let w : ⊥ = omega arith in w)

@@ -20,6 +20,7 @@ pub mod Trees
 pub mod Accepted
 pub mod Sending
 pub mod Bounds
+pub mod CallByParts
 -- What the answer holds: beliefs, amounts and endings.
 pub mod Answers
 pub mod Beliefs

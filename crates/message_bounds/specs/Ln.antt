@@ -19,7 +19,7 @@ use Rattle.float_laws.specs.Sums.{ofNat, whole-mono, whole-finite, share-in}
 use Rattle.float_laws.specs.Table.{upto, upto-at, chose}
 use Rattle.float_laws.specs.Patterns.{clear-below}
 use Rattle.float_laws.specs.BitOrder.{pattern-ge, pattern-le}
-use Rattle.definition.specs.Floats.{_⊕_, _⊖_, _⊗_, _⊘_, twoᶠ, leastNormal, ln2, ofNat, logTableNumber, logTableEntry, lnOfBits, ln}
+use Rattle.definition.specs.Floats.{_⊕_, _⊖_, _⊗_, _⊘_, twoᶠ, leastNormal, ln2, logTableNumber, logTableEntry, lnOfBits, ln}
 use Rattle.message_bounds.specs.Bounded.{above-clear}
 
 -- ---- what the logarithm reads: a number that the format holds, with a clear sign
@@ -64,17 +64,17 @@ tick = fin false 1 (negsuc 8)
 entry-test : ℕ → Bool
 entry-test i = le zeroᶠ (logTableEntry i) && (le (logTableEntry i) oneᶠ && (le zeroᶠ (step i) && le (step i) tick))
 
-entries-updateKind : T (upto entry-test 1024)
+entries-pass : T (upto entry-test 1024)
 unfolding entry-test step logTableEntry logTableNumber le sub round
-entries-updateKind = tt
+entries-pass = tt
 
 -- from 0 at i and the step there: between 0 and LN_2
 unit-test : ℕ → Bool
 unit-test i = add-test zeroᶠ ln2 (zeroᶠ ⊕ logTableEntry i) (zeroᶠ ⊕ logTableEntry i) zeroᶠ (step i) && mul-test zeroᶠ (step i) zeroᶠ oneᶠ (step i) (step i)
 
-units-updateKind : T (upto unit-test 1024)
+units-pass : T (upto unit-test 1024)
 unfolding unit-test add-test mul-test step logTableEntry logTableNumber add sub round
-units-updateKind = tt
+units-pass = tt
 
 abbrev floor : Float
 floor = fin true 89 (pos 0)
@@ -85,22 +85,22 @@ scale e = ofInt binary32 (minus e 127) ⊗ ln2
 scale-test : ℕ → Bool
 scale-test e = le floor (scale e) && le (scale e) (fin false 89 (pos 0))
 
-scales-updateKind : T (upto scale-test 256)
+scales-pass : T (upto scale-test 256)
 unfolding scale-test le mul ofInt
-scales-updateKind = tt
+scales-pass = tt
 
 -- ---- what the tests say
 entry-in : (i : ℕ) → i < 1024 → In zeroᶠ oneᶠ (logTableEntry i)
 unfolding entry-test
 entry-in i h =
-    let t = upto-at entry-test 1024 entries-updateKind i h in
+    let t = upto-at entry-test 1024 entries-pass i h in
     let u = and-r (le zeroᶠ (logTableEntry i)) (le (logTableEntry i) oneᶠ && (le zeroᶠ (step i) && le (step i) tick)) t in
     record { low = and-l (le zeroᶠ (logTableEntry i)) (le (logTableEntry i) oneᶠ && (le zeroᶠ (step i) && le (step i) tick)) t; high = and-l (le (logTableEntry i) oneᶠ) (le zeroᶠ (step i) && le (step i) tick) u }
 
 step-in : (i : ℕ) → i < 1024 → In zeroᶠ tick (step i)
 unfolding entry-test
 step-in i h =
-    let t = upto-at entry-test 1024 entries-updateKind i h in
+    let t = upto-at entry-test 1024 entries-pass i h in
     let u = and-r (le zeroᶠ (logTableEntry i)) (le (logTableEntry i) oneᶠ && (le zeroᶠ (step i) && le (step i) tick)) t in
     let v = and-r (le (logTableEntry i) oneᶠ) (le zeroᶠ (step i) && le (step i) tick) u in
     record { low = and-l (le zeroᶠ (step i)) (le (step i) tick) v; high = and-r (le zeroᶠ (step i)) (le (step i) tick) v }
@@ -108,7 +108,7 @@ step-in i h =
 scale-in : (e : ℕ) → e < 256 → In floor (fin false 89 (pos 0)) (scale e)
 unfolding scale-test
 scale-in e h =
-    let t = upto-at scale-test 256 scales-updateKind e h in
+    let t = upto-at scale-test 256 scales-pass e h in
     record { low = and-l (le floor (scale e)) (le (scale e) (fin false 89 (pos 0))) t; high = and-r (le floor (scale e)) (le (scale e) (fin false 89 (pos 0))) t }
 
 -- ---- by a pattern's exponent e, the upper ten digits i of its fraction and the lower thirteen f
@@ -125,9 +125,9 @@ pub bits-are : (b : ℕ) → lnOfBits b ≡ lnParts (b / 8388608) (b % 8388608 /
 unfolding lnOfBits
 bits-are b = refl
 
-components-in : (e i f : ℕ) → e < 256 → i < 1024 → f < 8192 → In lnLow lnHigh (lnParts e i f)
+lnParts-in : (e i f : ℕ) → e < 256 → i < 1024 → f < 8192 → In lnLow lnHigh (lnParts e i f)
 unfolding step
-components-in e i f he hi hf =
+lnParts-in e i f he hi hf =
     add-in floor lnHigh (add-in floor (fin false 90 (pos 0)) (scale-in e he) (entry-in i hi) (unfold add-test in tt)) (mul-in zeroᶠ tick (fraction-in f hf) (step-in i hi) (unfold mul-test in tt)) (unfold add-test in tt)
 
 -- ---- at the exponent of 1
@@ -138,7 +138,7 @@ zero-scale = refl
 unit-in : (i f : ℕ) → i < 1024 → f < 8192 → In zeroᶠ ln2 (lnParts 127 i f)
 unfolding unit-test step
 unit-in i f hi hf =
-    let t = upto-at unit-test 1024 units-updateKind i hi in
+    let t = upto-at unit-test 1024 units-pass i hi in
     let A = zeroᶠ ⊕ logTableEntry i in
     let a = add-test zeroᶠ ln2 A A zeroᶠ (step i) in
     let m = mul-test zeroᶠ (step i) zeroᶠ oneᶠ (step i) (step i) in
@@ -152,7 +152,7 @@ unfolding ln
 ln-in x t =
     let b = toBits binary32 (normal x) in
     let h : b < 2 ^ 31 = clear-below (normal x) (normal-fits x t) (normal-clear x) in
-    subst (λ (z : Float). In lnLow lnHigh z) (sym (bits-are b)) (components-in (b / 8388608) (b % 8388608 / 8192) (b % 8192) (omega arith) (omega arith) (omega arith))
+    subst (λ (z : Float). In lnLow lnHigh z) (sym (bits-are b)) (lnParts-in (b / 8388608) (b % 8388608 / 8192) (b % 8192) (omega arith) (omega arith) (omega arith))
 
 -- ---- at x from 1 to 2
 bits-of-one : ofBits binary32 1065353216 ≡ oneᶠ

@@ -1,7 +1,7 @@
 -- Values of clear sign that are at most K: powers, differences from 1, sums, quotients; and `normalize`, whose entries are shares of their sum.
 use mathlib.Core.Path.{_≡_, refl, sym, ap, subst}
 use mathlib.Core.Bool.{Bool, true, false, not, cond}
-use mathlib.Core.List.{List, [], _∷_, map}
+use mathlib.Core.List.{List, map}
 use Prim.Native.Nat.{ℕ, zero, suc, _+_, _*_, _/_, _%_, _^_, _≤_}
 use native.Mathlib.Omega.{arith}
 use lib.Dec.{T, eqb, lit≤}
@@ -16,8 +16,8 @@ use Rattle.float_laws.specs.Sums.{sumFrom, ofNat, whole-mono, next-in, one-is}
 use Rattle.float_laws.specs.Error.{val32}
 use Rattle.float_laws.specs.Totals.{AtMost, AllAtMost, atMost-in, atMost-finite, clear-add, div-units, shares-atMost}
 use Rattle.float_laws.specs.Products.{atMost-mul}
-use Rattle.definition.specs.Floats.{_⊕_, _⊗_, _⊘_, c, zeroᶠ, oneᶠ, avoidUnderflow, powi, powiFrom}
-use Rattle.definition.specs.Vectors.{sumFrom, sumOf, normalize}
+use Rattle.definition.specs.Floats.{_⊕_, _⊗_, _⊘_, c, avoidUnderflow, powi, powiFrom}
+use Rattle.definition.specs.Vectors.{sumOf, normalize}
 use Rattle.definition.specs.Refusals.{leastProbability, greatestProbability}
 use Rattle.message_bounds.specs.Bounded.{above-clear, BoundedEntry, Ranged, avoidUnderflow-entry, atMost-range}
 
@@ -87,16 +87,9 @@ avoidUnderflow-grows x n = go (lt x c) (λ (t : T (lt x c)). lt→le x c t)
     go false f = le-refl-at x n
 
 -- ---- sums as float_laws has them
-sumOf-from-is : (a : Float) (l : List Float) → sumFrom a l ≡ sumFrom a l
-sumOf-from-is a [] = refl
-sumOf-from-is a (x ∷ l) = sumOf-from-is (a ⊕ x) l
-
 pub sumOf-is : (l : List Float) → sumOf l ≡ sumFrom zeroᶠ l
 unfolding sumOf
-sumOf-is l = sumOf-from-is zeroᶠ l
-
-pub sumOf-zero-is : (l : List Float) → sumFrom zeroᶠ l ≡ sumFrom zeroᶠ l
-sumOf-zero-is l = sumOf-from-is zeroᶠ l
+sumOf-is l = refl
 
 pub normalize-is : (l : List Float) → normalize l ≡ map (λ (x : Float). div binary32 x (sumFrom zeroᶠ l)) l
 unfolding normalize

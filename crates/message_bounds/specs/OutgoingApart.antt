@@ -65,6 +65,6 @@ module _ (s : Settings) (f : Buffers) (b : Bale) (k : ℕ) (p : List Node) (h : 
       go false e =
           subst (λ (x : MessageNode). NoDup eqb (x .outgoing)) (sym (List·getD-eq-default (its .nodes) noMessageNode (no-ltb n (length (its .nodes)) e))) tt
 
-  pub components-apart : Apart its
+  pub part-outgoing-apart : Apart its
   unfolding otherOutgoing
-  components-apart n i = others-apart i (nodeAt its n .outgoing) (outgoing-apart n)
+  part-outgoing-apart n i = others-apart i (nodeAt its n .outgoing) (outgoing-apart n)

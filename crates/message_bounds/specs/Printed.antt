@@ -15,7 +15,9 @@ use Rattle.definition.specs.FactorGraph.{Bale}
 use Rattle.definition.specs.Answer.{Belief, PartAnswer, answer, endingResidual, answeredBeliefs, beliefFloats, endingFloats}
 use Rattle.definition.specs.Listing.{hexDigit, hexBefore, hex}
 use Rattle.definition.specs.Refusals.{Buffers, accepted, verdict}
-use Rattle.graph_laws.specs.Lists.{All, All-append, All-mono, All-map-into}
+use Rattle.graph_laws.specs.Lists.{All, All-mono, All-map-into}
+use Rattle.graph_laws.specs.Ranks.{All-concat-into}
+use Rattle.graph_laws.specs.AnswerSizes.{beliefs-each}
 use Rattle.claims.specs.Parts.{SettingsFit, EvidenceFits, AllEvidence}
 use Rattle.message_bounds.specs.Beliefs.{UnitValue, unit-finite, UnitValues, beliefs-in-unit}
 use Rattle.message_bounds.specs.Residuals.{Small, small-finite}
@@ -29,20 +31,16 @@ pub record Printable (x : Float) : Type 0 where
 printable : (x : Float) → T (finite x) → T (fits binary32 x) → Printable x
 printable x f t = record { number = f; holds = t; back = ofBits-toBits binary32 x t }
 
--- ---- lists of beliefs, and of parts
+-- ---- lists of beliefs
 printable-beliefs : (bs : List Belief) → All UnitValues bs → All Printable (beliefFloats bs)
 unfolding beliefFloats
-printable-beliefs [] h = tt
-printable-beliefs (b ∷ bs) h = All-append Printable (b .value) (beliefFloats bs) (All-mono UnitValue Printable (λ x c. printable x (unit-finite x c) (c .holds)) (b .value) (h .0)) (printable-beliefs bs (h .1))
-
-all-beliefs : (ps : List PartAnswer) → All (λ q. All UnitValues (q .beliefs)) ps → All UnitValues (answeredBeliefs ps)
-unfolding answeredBeliefs
-all-beliefs [] h = tt
-all-beliefs (p ∷ ps) h = All-append UnitValues (p .beliefs) (answeredBeliefs ps) (h .0) (all-beliefs ps (h .1))
+printable-beliefs bs h =
+    All-concat-into Printable (λ (b : Belief). b .value) bs
+    (All-mono UnitValues (λ b. All Printable (b .value)) (λ b. All-mono UnitValue Printable (λ x c. printable x (unit-finite x c) (c .holds)) (b .value)) bs h)
 
 -- ---- the answer
 pub beliefs-printable : (s : Settings) (f : Buffers) (b : Bale) → verdict s f b ≡ accepted → SettingsFit s → AllEvidence EvidenceFits (b .markers) → All Printable (beliefFloats (answeredBeliefs (answer s b)))
-beliefs-printable s f b A t e = printable-beliefs (answeredBeliefs (answer s b)) (all-beliefs (answer s b) (beliefs-in-unit s f b A t e))
+beliefs-printable s f b A t e = printable-beliefs (answeredBeliefs (answer s b)) (beliefs-each UnitValues (answer s b) (beliefs-in-unit s f b A t e))
 
 pub endings-printable : (s : Settings) (f : Buffers) (b : Bale) → verdict s f b ≡ accepted → All Printable (endingFloats (answer s b))
 unfolding endingFloats

@@ -30,12 +30,12 @@ atMost-row K zero x [] l h n m k = more-all K l h k
 atMost-row K zero x (y ∷ b) [] h n m k = tt
 atMost-row K zero x (y ∷ b) (r ∷ l) h n m k = (atMost-add K 1 r (x ⊗ y) (omega arith) (k .0) (atMost-times x y n (m .0)), atMost-row K zero x b l h n (m .1) (k .1))
 
-atMost-cpdRows : (K i : ℕ) (a b l : List Float) → K + length a ≤ 2 ^ 24 → AllAtMost 1 a → AllAtMost 1 b → AllAtMost K l → AllAtMost (K + length a) (addAllProducts i a b l)
+atMost-rows : (K i : ℕ) (a b l : List Float) → K + length a ≤ 2 ^ 24 → AllAtMost 1 a → AllAtMost 1 b → AllAtMost K l → AllAtMost (K + length a) (addAllProducts i a b l)
 unfolding addAllProducts
-atMost-cpdRows K i [] b l h n m k = subst (λ (z : ℕ). AllAtMost z l) (let e : K ≡ K + 0 = omega arith in e) k
-atMost-cpdRows K i (x ∷ a) b l h n m k =
+atMost-rows K i [] b l h n m k = subst (λ (z : ℕ). AllAtMost z l) (let e : K ≡ K + 0 = omega arith in e) k
+atMost-rows K i (x ∷ a) b l h n m k =
     subst (λ (z : ℕ). AllAtMost z (addAllProducts (suc i) a b (addProducts i x b l))) (let e : K + 1 + length a ≡ K + suc (length a) = omega arith in e)
-    (atMost-cpdRows (K + 1) (suc i) a b (addProducts i x b l) (omega arith) (n .1) m (atMost-row K i x b l (omega arith) (n .0) m k))
+    (atMost-rows (K + 1) (suc i) a b (addProducts i x b l) (omega arith) (n .1) m (atMost-row K i x b l (omega arith) (n .0) m k))
 
 zeros-atMost : (n : ℕ) → AllAtMost 0 (replicate n zeroᶠ)
 zeros-atMost zero = tt
@@ -45,7 +45,7 @@ pub convolve-atMost : (a b : List Float) → length a ≤ 2 ^ 24 → AllAtMost 1
 convolve-atMost a b h n m =
     subst (AllAtMost (length a)) (sym (convolve-accumulates a b))
     (subst (λ (z : ℕ). AllAtMost z (addAllProducts 0 a b (replicate (length a + length b - 1) zeroᶠ))) (let e : 0 + length a ≡ length a = omega arith in e)
-    (atMost-cpdRows 0 0 a b (replicate (length a + length b - 1) zeroᶠ) (omega arith) n m (zeros-atMost (length a + length b - 1))))
+    (atMost-rows 0 0 a b (replicate (length a + length b - 1) zeroᶠ) (omega arith) n m (zeros-atMost (length a + length b - 1))))
 
 -- ---- the products of an entry are between 0 and 1, and no more than there are entries
 pub terms-atMost : (j : ℕ) (a b : List Float) → AllAtMost 1 a → AllAtMost 1 b → AllAtMost 1 (terms j a b) × (length (terms j a b) ≤ length a)
@@ -74,13 +74,13 @@ grows-row K zero x (y ∷ b) (r ∷ l) zero h n m f o =
     add-grows r (x ⊗ y) (f .0 .held) (atMost-finite K r h (f .0)) (atMost-finite 1 (x ⊗ y) (lit≤ tt) t) (clear-low (x ⊗ y) (t .clear-sign))
 grows-row K zero x (y ∷ b) (r ∷ l) (suc k) h n m f o = grows-row K zero x b l k h n (m .1) (f .1) (le-of-suc-le-suc o)
 
-grows-cpdRows : (K i : ℕ) (a b l : List Float) (k : ℕ) → K + length a ≤ 2 ^ 24 → AllAtMost 1 a → AllAtMost 1 b → AllAtMost K l → k < length l → T (le (getD l k nan) (getD (addAllProducts i a b l) k nan))
+grows-rows : (K i : ℕ) (a b l : List Float) (k : ℕ) → K + length a ≤ 2 ^ 24 → AllAtMost 1 a → AllAtMost 1 b → AllAtMost K l → k < length l → T (le (getD l k nan) (getD (addAllProducts i a b l) k nan))
 unfolding addAllProducts
-grows-cpdRows K i [] b l k h n m f o = number-at K l k (omega arith) f o
-grows-cpdRows K i (x ∷ a) b l k h n m f o =
+grows-rows K i [] b l k h n m f o = number-at K l k (omega arith) f o
+grows-rows K i (x ∷ a) b l k h n m f o =
     le-trans-at (getD l k nan) (getD (addProducts i x b l) k nan) (getD (addAllProducts (suc i) a b (addProducts i x b l)) k nan)
     (grows-row K i x b l k (omega arith) (n .0) m f o)
-    (grows-cpdRows (K + 1) (suc i) a b (addProducts i x b l) k (omega arith) (n .1) m (atMost-row K i x b l (omega arith) (n .0) m f) (omega (arith, length-addProducts i x b l)))
+    (grows-rows (K + 1) (suc i) a b (addProducts i x b l) k (omega arith) (n .1) m (atMost-row K i x b l (omega arith) (n .0) m f) (omega (arith, length-addProducts i x b l)))
 
 -- ---- and each product ends up in one
 abbrev pub Reached : Float → List Float → Type 0
@@ -100,10 +100,10 @@ reach-row K zero x (y ∷ b) (r ∷ l) zero h n m f o g =
     (0, omega arith, add-grows-r r (x ⊗ y) (mul-fits binary32 x y) (atMost-finite K r h (f .0)) (atMost-finite 1 (x ⊗ y) (lit≤ tt) t) (clear-low r (f .0 .clear-sign)))
 reach-row K zero x (y ∷ b) (r ∷ l) (suc j) h n m f o g = deeper (x ⊗ getD b j nan) (r ⊕ x ⊗ y) (addProducts zero x b l) (reach-row K zero x b l j h n (m .1) (f .1) (le-of-suc-le-suc o) (omega arith))
 
-reach-cpdRows : (K i : ℕ) (a b l : List Float) (u j : ℕ) → K + length a ≤ 2 ^ 24 → AllAtMost 1 a → AllAtMost 1 b → AllAtMost K l → u < length a → j < length b → i + length a + length b ≤ suc (length l) → Reached (getD a u nan ⊗ getD b j nan) (addAllProducts i a b l)
+reach-rows : (K i : ℕ) (a b l : List Float) (u j : ℕ) → K + length a ≤ 2 ^ 24 → AllAtMost 1 a → AllAtMost 1 b → AllAtMost K l → u < length a → j < length b → i + length a + length b ≤ suc (length l) → Reached (getD a u nan ⊗ getD b j nan) (addAllProducts i a b l)
 unfolding addAllProducts
-reach-cpdRows K i [] b l u j h n m f p o g = absurd (not-suc-le-zero p)
-reach-cpdRows K i (x ∷ a) b l zero j h n m f p o g =
+reach-rows K i [] b l u j h n m f p o g = absurd (not-suc-le-zero p)
+reach-rows K i (x ∷ a) b l zero j h n m f p o g =
     let q = reach-row K i x b l j (omega arith) (n .0) m f o (omega arith) in
     let e = length-addProducts i x b l in
     let w = addProducts i x b l in
@@ -111,12 +111,12 @@ reach-cpdRows K i (x ∷ a) b l zero j h n m f p o g =
       q .0,
       omega (arith, q .1),
       le-trans-at (x ⊗ getD b j nan) (getD w (q .0) nan) (getD (addAllProducts (suc i) a b w) (q .0) nan) (q .2)
-          (grows-cpdRows (K + 1) (suc i) a b w (q .0) (omega arith) (n .1) m (atMost-row K i x b l (omega arith) (n .0) m f) (q .1)),
+          (grows-rows (K + 1) (suc i) a b w (q .0) (omega arith) (n .1) m (atMost-row K i x b l (omega arith) (n .0) m f) (q .1)),
     )
-reach-cpdRows K i (x ∷ a) b l (suc u) j h n m f p o g =
-    reach-cpdRows (K + 1) (suc i) a b (addProducts i x b l) u j (omega arith) (n .1) m (atMost-row K i x b l (omega arith) (n .0) m f) (le-of-suc-le-suc p) o (omega (arith, length-addProducts i x b l))
+reach-rows K i (x ∷ a) b l (suc u) j h n m f p o g =
+    reach-rows (K + 1) (suc i) a b (addProducts i x b l) u j (omega arith) (n .1) m (atMost-row K i x b l (omega arith) (n .0) m f) (le-of-suc-le-suc p) o (omega (arith, length-addProducts i x b l))
 
 pub convolve-reaches : (a b : List Float) (u j : ℕ) → length a ≤ 2 ^ 24 → AllAtMost 1 a → AllAtMost 1 b → u < length a → j < length b → Reached (getD a u nan ⊗ getD b j nan) (convolve a b)
 convolve-reaches a b u j h n m p o =
     subst (Reached (getD a u nan ⊗ getD b j nan)) (sym (convolve-accumulates a b))
-    (reach-cpdRows 0 0 a b (replicate (length a + length b - 1) zeroᶠ) u j (omega arith) n m (zeros-atMost (length a + length b - 1)) p o (omega (arith, length-replicate (length a + length b - 1) zeroᶠ)))
+    (reach-rows 0 0 a b (replicate (length a + length b - 1) zeroᶠ) u j (omega arith) n m (zeros-atMost (length a + length b - 1)) p o (omega (arith, length-replicate (length a + length b - 1) zeroᶠ)))

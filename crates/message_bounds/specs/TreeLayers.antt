@@ -12,7 +12,7 @@ use Rattle.definition.specs.ConvolutionTree.{convolve, countLayer, messageUp, l
 use Rattle.graph_laws.specs.Convolution.{logLength-least}
 use Rattle.graph_laws.specs.Lengths.{Long, double}
 use Rattle.graph_laws.specs.Sending.{Goods}
-use Rattle.message_bounds.specs.Bounded.{Bounded}
+use Rattle.message_bounds.specs.Bounded.{BoundedEntries}
 
 -- What is known of the leaves under a vector: of none, of one, and of two vectors' together. `Up q x j`: j is the vector of the leaves x, in layer q.
 -- `Down q before x after l`: l is its likelihoods, where all other leaves are those before and those after.
@@ -26,7 +26,7 @@ pub record Layered (depth : ℕ) : Type 1 where
   pub Up : ℕ → Leaves → List Float → Type 0
   pub Down : ℕ → Leaves → Leaves → Leaves → List Float → Type 0
   pub padded : Up 0 none (normalize (binary oneᶠ zeroᶠ))
-  pub real : (m : Message) → length m ≡ 2 → Bounded m → Up 0 (leaf m) (normalize m)
+  pub real : (m : Message) → length m ≡ 2 → BoundedEntries m → Up 0 (leaf m) (normalize m)
   pub joined : (q : ℕ) (x y : Leaves) (a b : List Float) → q < depth → Up q x a → Up q y b → Up (suc q) (and x y) (normalize (convolve a b))
   pub left : (q : ℕ) (before x y after : Leaves) (a b l : List Float) → q < depth → Up q x a → Up q y b → Down (suc q) before (and x y) after l
       → Down q before x (and y after) (messageUp (length a) b l)
@@ -137,12 +137,12 @@ module _ {depth : ℕ} (S : Layered depth) where
   all-first [] (suc z) = ap (and none) (all-first [] z) ∙ and-none none
   all-first (m ∷ ms) z = ap (and (leaf m)) (all-first ms z)
 
-  ups-first : (ms : List Message) (z : ℕ) → Long 2 ms → Goods Bounded ms → Ups 0 (first ms z) (map normalize (ms ++ replicate z (binary oneᶠ zeroᶠ)))
+  ups-first : (ms : List Message) (z : ℕ) → Long 2 ms → Goods BoundedEntries ms → Ups 0 (first ms z) (map normalize (ms ++ replicate z (binary oneᶠ zeroᶠ)))
   ups-first [] zero l g = tt
   ups-first [] (suc z) l g = (padded, ups-first [] z l g)
   ups-first (m ∷ ms) z l g = (real m (l .0) (g .0), ups-first ms z (l .1) (g .1))
 
-  module _ (ms : List Message) (few : length ms ≤ 2 ^ depth) (l : Long 2 ms) (g : Goods Bounded ms) where
+  module _ (ms : List Message) (few : length ms ≤ 2 ^ depth) (l : Long 2 ms) (g : Goods BoundedEntries ms) where
     abbrev p : ℕ
     p = logLength (length ms)
 

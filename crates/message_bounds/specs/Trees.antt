@@ -17,7 +17,7 @@ use Rattle.definition.specs.ConvolutionTree.{messageUp, treeLayers, logLength, 
 use Rattle.graph_laws.specs.Convolution.{logLength-least}
 use Rattle.graph_laws.specs.Lengths.{Long, length-normalize}
 use Rattle.graph_laws.specs.Sending.{Goods}
-use Rattle.message_bounds.specs.Bounded.{Bounded, avoidUnderflow-bounded}
+use Rattle.message_bounds.specs.Bounded.{BoundedEntries, avoidUnderflow-bounded}
 use Rattle.message_bounds.specs.Normalized.{normalize-is}
 use Rattle.message_bounds.specs.Joint.{Joint, joined, real-leaf, padding}
 use Rattle.message_bounds.specs.Likelihoods.{LikelihoodBound, stepped}
@@ -83,7 +83,7 @@ root-bound {n} {f} M B h =
       over = rw normalize-is (overs (suc n) f (M .bounded) (held-shares M));
     }
   where
-    overs : (j : ℕ) (l : Message) → Bounded l → AllAtMost 1 (map (shareOf f) l) → AllOver B (take j (map (shareOf f) l))
+    overs : (j : ℕ) (l : Message) → BoundedEntries l → AllAtMost 1 (map (shareOf f) l) → AllOver B (take j (map (shareOf f) l))
     overs zero l i m = tt
     overs (suc j) [] i m = tt
     overs (suc j) (x ∷ l) i m = (held-over M B h x (i .0) (m .0), overs j l (i .1) (m .1))
@@ -96,15 +96,15 @@ root-room p n h k =
 
 -- ---- all that a tree sends
 likelihoods-bounded : (n before : ℕ) (rs : List ℕ) (ls : List (List Float)) → Downs counted 0 before rs ls
-    → Goods Bounded (map (λ (l : List Float). avoidUnderflowAll (take 2 l)) (take n ls))
+    → Goods BoundedEntries (map (λ (l : List Float). avoidUnderflowAll (take 2 l)) (take n ls))
 likelihoods-bounded zero before rs ls L = tt
 likelihoods-bounded (suc n) before rs [] L = tt
 likelihoods-bounded (suc n) before [] (l ∷ ls) L = absurd L
 likelihoods-bounded (suc n) before (r ∷ rs) (l ∷ ls) L =
     (avoidUnderflow-bounded (take 2 l) (atMost-take 1 2 l (L .0 .nice)), likelihoods-bounded n (before + r) rs ls (L .1))
 
-pub trees-bounded : (f : Message) (ms : List Message) → length ms ≤ 128 → length f ≡ suc (length ms) → Bounded f → Long 2 ms → Goods Bounded ms
-    → Goods Bounded (treeMessages f ms)
+pub trees-bounded : (f : Message) (ms : List Message) → length ms ≤ 128 → length f ≡ suc (length ms) → BoundedEntries f → Long 2 ms → Goods BoundedEntries ms
+    → Goods BoundedEntries (treeMessages f ms)
 unfolding treeMessages
 trees-bounded f ms h e g l w =
     let p = logLength (length ms) in

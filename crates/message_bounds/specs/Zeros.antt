@@ -52,18 +52,18 @@ zeros-all zero (suc n) = (refl, zeros-all zero n)
 zeros-all (suc m) (suc n) = zeros-all m n
 
 -- ---- a row of zeros
-initialMessage-at : (r x y : Float) → r ≡ zeroᶠ → x ⊗ y ≡ zeroᶠ → r ⊕ x ⊗ y ≡ zeroᶠ
-initialMessage-at r x y p q = ap (λ (z : Float). z ⊕ x ⊗ y) p ∙ ap (λ (z : Float). zeroᶠ ⊕ z) q ∙ zero-plus
+zero-entry : (r x y : Float) → r ≡ zeroᶠ → x ⊗ y ≡ zeroᶠ → r ⊕ x ⊗ y ≡ zeroᶠ
+zero-entry r x y p q = ap (λ (z : Float). z ⊕ x ⊗ y) p ∙ ap (λ (z : Float). zeroᶠ ⊕ z) q ∙ zero-plus
 
-initialMessage-row : (i R : ℕ) (x : Float) (b l : List Float) → x ≡ zeroᶠ → AllAtMost 1 b → Zeros R l → Zeros R (addProducts i x b l)
+zero-row : (i R : ℕ) (x : Float) (b l : List Float) → x ≡ zeroᶠ → AllAtMost 1 b → Zeros R l → Zeros R (addProducts i x b l)
 unfolding addProducts
-initialMessage-row (suc i) R x b [] e n z = tt
-initialMessage-row (suc i) zero x b (r ∷ l) e n z = (z .0, initialMessage-row i zero x b l e n (z .1))
-initialMessage-row (suc i) (suc R) x b (r ∷ l) e n z = initialMessage-row i R x b l e n z
-initialMessage-row zero R x [] l e n z = z
-initialMessage-row zero R x (y ∷ b) [] e n z = tt
-initialMessage-row zero zero x (y ∷ b) (r ∷ l) e n z = (initialMessage-at r x y (z .0) (ap (λ (w : Float). w ⊗ y) e ∙ zero-times y (n .0)), initialMessage-row zero zero x b l e (n .1) (z .1))
-initialMessage-row zero (suc R) x (y ∷ b) (r ∷ l) e n z = initialMessage-row zero R x b l e (n .1) z
+zero-row (suc i) R x b [] e n z = tt
+zero-row (suc i) zero x b (r ∷ l) e n z = (z .0, zero-row i zero x b l e n (z .1))
+zero-row (suc i) (suc R) x b (r ∷ l) e n z = zero-row i R x b l e n z
+zero-row zero R x [] l e n z = z
+zero-row zero R x (y ∷ b) [] e n z = tt
+zero-row zero zero x (y ∷ b) (r ∷ l) e n z = (zero-entry r x y (z .0) (ap (λ (w : Float). w ⊗ y) e ∙ zero-times y (n .0)), zero-row zero zero x b l e (n .1) (z .1))
+zero-row zero (suc R) x (y ∷ b) (r ∷ l) e n z = zero-row zero R x b l e (n .1) z
 
 -- ---- a row that ends early
 live-row : (i m R : ℕ) (x : Float) (b l : List Float) → AtMost 1 x → AllAtMost 1 b → Zeros m b → i + m ≤ R → Zeros R l → Zeros R (addProducts i x b l)
@@ -73,22 +73,22 @@ live-row (suc i) m zero x b (r ∷ l) n k w h z = absurd (let o : ⊥ = omega ar
 live-row (suc i) m (suc R) x b (r ∷ l) n k w h z = live-row i m R x b l n k w (omega arith) z
 live-row zero m R x [] l n k w h z = z
 live-row zero m R x (y ∷ b) [] n k w h z = tt
-live-row zero zero zero x (y ∷ b) (r ∷ l) n k w h z = (initialMessage-at r x y (z .0) (ap (λ (v : Float). x ⊗ v) (w .0) ∙ times-zero x n), live-row zero zero zero x b l n (k .1) (w .1) h (z .1))
+live-row zero zero zero x (y ∷ b) (r ∷ l) n k w h z = (zero-entry r x y (z .0) (ap (λ (v : Float). x ⊗ v) (w .0) ∙ times-zero x n), live-row zero zero zero x b l n (k .1) (w .1) h (z .1))
 live-row zero zero (suc R) x (y ∷ b) (r ∷ l) n k w h z = live-row zero zero R x b l n (k .1) (w .1) (omega arith) z
 live-row zero (suc m) zero x (y ∷ b) (r ∷ l) n k w h z = absurd (let o : ⊥ = omega arith in o)
 live-row zero (suc m) (suc R) x (y ∷ b) (r ∷ l) n k w h z = live-row zero m R x b l n (k .1) w (omega arith) z
 
 -- ---- the rows together
-initialMessage-cpdRows : (i R : ℕ) (a b l : List Float) → Zeros zero a → AllAtMost 1 b → Zeros R l → Zeros R (addAllProducts i a b l)
+zero-rows : (i R : ℕ) (a b l : List Float) → Zeros zero a → AllAtMost 1 b → Zeros R l → Zeros R (addAllProducts i a b l)
 unfolding addAllProducts
-initialMessage-cpdRows i R [] b l e n z = z
-initialMessage-cpdRows i R (x ∷ a) b l e n z = initialMessage-cpdRows (suc i) R a b (addProducts i x b l) (e .1) n (initialMessage-row i R x b l (e .0) n z)
+zero-rows i R [] b l e n z = z
+zero-rows i R (x ∷ a) b l e n z = zero-rows (suc i) R a b (addProducts i x b l) (e .1) n (zero-row i R x b l (e .0) n z)
 
-pub live-cpdRows : (i m k R : ℕ) (a b l : List Float) → AllAtMost 1 a → AllAtMost 1 b → Zeros m a → Zeros k b → i + m + k ≤ suc R → Zeros R l → Zeros R (addAllProducts i a b l)
+pub live-rows : (i m k R : ℕ) (a b l : List Float) → AllAtMost 1 a → AllAtMost 1 b → Zeros m a → Zeros k b → i + m + k ≤ suc R → Zeros R l → Zeros R (addAllProducts i a b l)
 unfolding addAllProducts
-live-cpdRows i m k R [] b l n p e f h z = z
-live-cpdRows i zero k R (x ∷ a) b l n p e f h z = initialMessage-cpdRows (suc i) R a b (addProducts i x b l) (e .1) p (initialMessage-row i R x b l (e .0) p z)
-live-cpdRows i (suc m) k R (x ∷ a) b l n p e f h z = live-cpdRows (suc i) m k R a b (addProducts i x b l) (n .1) p e f (omega arith) (live-row i k R x b l (n .0) p f (omega arith) z)
+live-rows i m k R [] b l n p e f h z = z
+live-rows i zero k R (x ∷ a) b l n p e f h z = zero-rows (suc i) R a b (addProducts i x b l) (e .1) p (zero-row i R x b l (e .0) p z)
+live-rows i (suc m) k R (x ∷ a) b l n p e f h z = live-rows (suc i) m k R a b (addProducts i x b l) (n .1) p e f (omega arith) (live-row i k R x b l (n .0) p f (omega arith) z)
 
 -- ---- divided
 pub zeros-share : (m : ℕ) (s : Float) (l : List Float) → T (fits binary32 s) → T (positive s) → Zeros m l → Zeros m (map (λ (x : Float). x ⊘ s) l)

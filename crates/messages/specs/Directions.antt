@@ -262,7 +262,7 @@ filled-all base at out labels g d w F e =
 -- ---- what the functions ask of the words
 
 -- some graph's record is there, with the rows of its first d directions
-pub record Held (w : List ℕ) (at nodes edges out d : ℕ) : Type 0 where
+pub record SomeFilled (w : List ℕ) (at nodes edges out d : ℕ) : Type 0 where
   pub base : List ℕ
   pub labels : List ℕ
   pub graph : Subgraph

@@ -79,11 +79,6 @@ laid-put w v at out labels g R h k e =
       rows = region-all 0 w out s (omega arith);
     })
 
-pub recorded-fits : (w : List ℕ) (at : ℕ) (labels : List ℕ) (g : Subgraph) → Recorded w at labels g → RecordFits w at
-recorded-fits w at labels g R =
-    let r = record-room w at labels g R in
-    record { counts = omega arith; record-in = omega (arith, node-count w at labels g R, edge-count w at labels g R) }
-
 module _ (w : List ℕ) (at out : ℕ) (labels : List ℕ) (g : Subgraph) (L : Laid w at out labels g) where
   abbrev t : MessageGraph
   t = messageGraph g
@@ -96,12 +91,6 @@ module _ (w : List ℕ) (at out : ℕ) (labels : List ℕ) (g : Subgraph) (L : L
 
   d-is : 2 * getD w (at + 1) 0 ≡ length (messageGraph g .directions)
   d-is = omega (arith, e-is, L .recorded .consistent .directions)
-
-  pub laid-record : RecordFits w at
-  laid-record = recorded-fits w at labels g (L .recorded)
-
-  pub laid-rows : RowsFit w at out
-  laid-rows = record { counts = laid-record .counts; rows-in = omega (arith, e-is, L .room) }
 
   whole : Stands w out (startsOf t ++ (outsOf t ++ offsetsFrom 0 (t .directions)))
   unfolding directionRows

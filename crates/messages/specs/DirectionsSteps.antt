@@ -13,7 +13,7 @@ use Rattle.messages.specs.Layout.{width, firstsOf}
 use Rattle.messages.specs.LayoutOrder.{firsts-end, firsts-mono, in-order}
 use Rattle.messages.specs.DirectionsRecord.{firstsPlace, slotsPlace, edgesPlace, recordEnd, Recorded, node-count, edge-count, first-word}
 use Rattle.messages.specs.DirectionsRows.{directionRows}
-use Rattle.messages.specs.Directions.{farNode, placeInFar, edgePlace, backWord, directionStep, StepFits, Filled, filled-long, filled-recorded, filled-fits, filled-next, filled-none, filled-all, Held, Ready}
+use Rattle.messages.specs.Directions.{farNode, placeInFar, edgePlace, backWord, directionStep, StepFits, Filled, filled-long, filled-recorded, filled-fits, filled-next, filled-none, filled-all, SomeFilled, Ready}
 
 -- ---- the step, from what is read one after the other
 
@@ -107,7 +107,7 @@ module _ (base : List ℕ) (at out : ℕ) (labels : List ℕ) (g : Subgraph) (w�
   pub node-from : Filled base at out labels g (getD w (firstsPlace at nodes + n) 0) w
   node-from = subst (λ (k : ℕ). Filled base at out labels g k w) (sym (turn-first base at out labels g d₀ w Fl nodes edges still-nodes still-edges n (omega arith))) Fl
 
-  pub node-held : width (messageGraph g .directions) < 4294967296 → 2 * edges < 4294967296 → Held w at nodes edges out (getD w (firstsPlace at nodes + n) 0)
+  pub node-held : width (messageGraph g .directions) < 4294967296 → 2 * edges < 4294967296 → SomeFilled w at nodes edges out (getD w (firstsPlace at nodes + n) 0)
   node-held narrow few = record { base = base; labels = labels; graph = g; filled = node-from; nodes-are = still-nodes; edges-are = still-edges; narrow = narrow; few = few }
 
   pub node-to : (v : List ℕ) → Filled base at out labels g (getD w (firstsPlace at nodes + n + 1) 0) v → Filled base at out labels g (getD (firstsOf (messageGraph g)) (n + 1) 0) v

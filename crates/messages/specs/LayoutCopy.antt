@@ -8,13 +8,12 @@ use lib.ListN.{length, getD, take, drop-of-length-le}
 use lib.Seq.{take-add, take-all, length-take-le}
 use Rattle.definition.specs.Lists.{range}
 use Rattle.definition.specs.Directions.{Direction, MessageGraph, nodeAt, copyNodes}
-use Rattle.graph_laws.specs.Flat.{flat}
-use Rattle.graph_laws.specs.Lists.{append-none, length-count}
+use Rattle.graph_laws.specs.Lists.{append-none}
 use Rattle.list_laws.specs.Put.{put, put-next, put-none}
 use Rattle.messages.specs.Layout.{cut, width, firstsOf}
 use Rattle.messages.specs.LayoutLists.{getD-range}
 use Rattle.messages.specs.LayoutOffsets.{offsetAt, offset-zero, offset-end, offset-le, spanAt, span-end, span-room}
-use Rattle.messages.specs.LayoutCut.{flat-cut, rowIn, length-rowIn}
+use Rattle.messages.specs.LayoutCut.{rowIn, length-rowIn}
 use Rattle.messages.specs.LayoutPuts.{puts, puts-first, puts-ext, length-puts}
 use Rattle.messages.specs.LayoutWrite.{copyNode-cut, length-put-in}
 use Rattle.messages.specs.LayoutOrder.{firsts-at, firsts-end, InOrder, firsts-mono, inside}
@@ -52,9 +51,6 @@ module _ (t : MessageGraph) (O : InOrder t) (a : List Float) (ea : length a ≡ 
       ∙ copyNodes-cut ns (put b (at n) (row n)) (length-put-in ds a b (nodeAt t n) ea e (inside t O n))
       ∙ ap (cut ds) (sym (puts-first b (λ j. at (getD (n ∷ ns) j 0)) (λ j. row (getD (n ∷ ns) j 0)) (length ns)))
 
-  pub flat-copyNodes : (ns : List ℕ) (b : List Float) → length b ≡ width ds → flat (copyNodes t (cut ds a) ns (cut ds b)) ≡ copied t a ns b (length ns)
-  flat-copyNodes ns b e = ap flat (copyNodes-cut ns b e) ∙ flat-cut ds (copied t a ns b (length ns)) (length-copied ns b (length ns) e)
-
   -- ---- all nodes: the whole row
 
   abbrev end : ℕ → ℕ
@@ -91,8 +87,3 @@ module _ (t : MessageGraph) (O : InOrder t) (a : List Float) (ea : length a ≡ 
       ∙ ap (put b 0) (take-all (end N) a (omega (arith, ap (offsetAt ds) (firsts-end t), offset-end ds)))
       ∙ ap (λ (r : List Float). a ++ r) (drop-of-length-le b (let z : length b ≤ 0 + length a = omega arith in z))
       ∙ append-none a
-
-  pub copyNodes-all : (b : List Float) → length b ≡ width ds → copyNodes t (cut ds a) (range 0 (length (t .nodes))) (cut ds b) ≡ cut ds a
-  copyNodes-all b e =
-      let N = length (t .nodes) in
-      copyNodes-cut (range 0 N) b e ∙ ap (λ (k : ℕ). cut ds (copied t a (range 0 N) b k)) (length-count 0 N) ∙ ap (cut ds) (copied-all b e)

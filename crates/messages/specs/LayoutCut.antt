@@ -5,7 +5,7 @@ use native.Mathlib.Omega.{arith}
 use mathlib.Core.Path.{_≡_, refl, sym, ap, _∙_}
 use mathlib.Core.List.{List, [], _∷_, _++_}
 use lib.Ieee.{Float}
-use lib.ListN.{length, take, drop, length-append, length-drop, take-append-drop}
+use lib.ListN.{length, take, drop, length-drop, take-append-drop}
 use lib.Seq.{length-take-le, take-append-seam, drop-append-seam, take-take, drop-drop}
 use Rattle.definition.specs.Vectors.{Message}
 use Rattle.definition.specs.Directions.{Direction, MessageNode, messageAt, messagesIn}
@@ -49,15 +49,6 @@ cut-flat (x ∷ ds) (m ∷ ms) F =
     ∙ ap (λ (l : List Float). m ∷ cut ds l) (drop-append-seam m (flat ms))
     ∙ ap (λ (l : List Message). m ∷ l) (cut-flat ds ms (fits-tail x ds m ms F))
 
-pub length-flat : (ds : List Direction) (ms : List Message) → SetFits ds ms → length (flat ms) ≡ width ds
-unfolding flat
-length-flat [] [] F = refl
-length-flat [] (m ∷ ms) F = absurd (let z : ⊥ = omega (arith, F .count) in z)
-length-flat (x ∷ ds) [] F = absurd (let z : ⊥ = omega (arith, F .count) in z)
-length-flat (x ∷ ds) (m ∷ ms) F =
-    let e : length m ≡ x .messageLength = F .long 0 (omega arith) in
-    omega (arith, length-append m (flat ms), e, length-flat ds ms (fits-tail x ds m ms F))
-
 -- ---- one message
 
 pub cut-at : (ds : List Direction) (r : List Float) (d : ℕ) → d < length ds → messageAt d (cut ds r) ≡ region r (offsetAt ds d) (longAt ds d)
@@ -73,10 +64,6 @@ cut-long ds r d e h = ap length (cut-at ds r d h) ∙ length-region r (offsetAt 
 
 pub cut-fits : (ds : List Direction) (r : List Float) → length r ≡ width ds → SetFits ds (cut ds r)
 cut-fits ds r e = record { count = length-cut ds r; long = (λ d h. cut-long ds r d e h) }
-
--- two rows that are cut alike are alike
-pub cut-same : (ds : List Direction) (r s : List Float) → length r ≡ width ds → length s ≡ width ds → cut ds r ≡ cut ds s → r ≡ s
-cut-same ds r s h k e = sym (flat-cut ds r h) ∙ ap flat e ∙ flat-cut ds s k
 
 -- what stands as a row is the cut of it
 pub cut-of : (ds : List Direction) (ms : List Message) (r : List Float) → SetFits ds ms → flat ms ≡ r → ms ≡ cut ds r

@@ -1,5 +1,5 @@
 -- Laws of lists that the rows need: regions of regions and of maps, and runs of numbers.
-use Prim.Native.Nat.{ℕ, zero, suc, _+_, _≤_, _<_}
+use Prim.Native.Nat.{ℕ, zero, suc, _+_, _<_}
 use native.Mathlib.Nat.{zero-add}
 use native.Mathlib.Omega.{arith}
 use mathlib.Core.Path.{_≡_, refl, sym, ap, _∙_}
@@ -39,14 +39,3 @@ pub getD-range : (i n k : ℕ) → k < n → getD (range i n) k 0 ≡ i + k
 getD-range i zero k h = absurd (let z : ⊥ = omega arith in z)
 getD-range i (suc n) zero h = omega arith
 getD-range i (suc n) (suc k) h = getD-range (suc i) n k (omega arith) ∙ omega arith
-
-pub take-range : (i n m : ℕ) → n ≤ m → take n (range i m) ≡ range i n
-take-range i zero m h = refl
-take-range i (suc n) zero h = absurd (let z : ⊥ = omega arith in z)
-take-range i (suc n) (suc m) h = ap (λ (l : List ℕ). i ∷ l) (take-range (suc i) n m (omega arith))
-
-pub drop-range : (i f n : ℕ) → drop f (range i (f + n)) ≡ range (i + f) n
-drop-range i zero n = ap (λ (k : ℕ). range i k) (zero-add n) ∙ ap (λ (k : ℕ). range k n) (let z : i ≡ i + 0 = omega arith in z)
-drop-range i (suc f) n =
-    ap (λ (k : ℕ). drop (suc f) (range i k)) (let z : suc f + n ≡ suc (f + n) = omega arith in z) ∙ drop-range (suc i) f n
-    ∙ ap (λ (k : ℕ). range k n) (let z : suc i + f ≡ i + suc f = omega arith in z)

@@ -1,23 +1,18 @@
--- A message graph whose nodes' directions follow each other, node by node: so the rows are cut at the firsts, and a run over nodes and positions is one over directions.
-use Prim.Native.Nat.{ℕ, zero, suc, _+_, _-_, _≤_, _<_}
+-- A message graph whose nodes' directions follow each other, node by node: so what stands at a position of a node stands behind the node's first in a row.
+use Prim.Native.Nat.{ℕ, zero, suc, _+_, _≤_, _<_}
 use native.Mathlib.Decide.{decLt}
 use native.Mathlib.Omega.{arith}
 use mathlib.Core.Path.{_≡_, refl, sym, ap, _∙_}
 use mathlib.Core.Logic.{by-cases}
-use mathlib.Core.List.{List, [], _∷_, _++_, map, map-append}
-use lib.ListN.{length, getD, take, drop, length-map, length-append, List·getD-append, List·getD-eq-default}
-use lib.Seq.{take-suc, take-add, take-all, take-length, getD-append-seam, getD-append-add}
-use Rattle.definition.specs.Lists.{range, concat}
-use Rattle.definition.specs.Vectors.{Message}
+use mathlib.Core.List.{List, [], _∷_, _++_, map}
+use lib.ListN.{length, getD, length-map, length-append, List·getD-append, List·getD-eq-default}
+use lib.Seq.{getD-append-seam, getD-append-add}
+use Rattle.definition.specs.Lists.{concat}
 use Rattle.definition.specs.FactorGraph.{Bale, Node}
 use Rattle.definition.specs.Components.{Subgraph, SubgraphNode, subgraphOf}
-use Rattle.definition.specs.Directions.{MessageNode, MessageGraph, noMessageNode, directionsTo, messageGraph, messageGraphOf, nodeAt, incoming, messagesIn}
-use Rattle.graph_laws.specs.Lists.{append-none, concat-append, length-count, map-cong}
-use Rattle.graph_laws.specs.Places.{All-numbered}
+use Rattle.definition.specs.Directions.{MessageNode, MessageGraph, noMessageNode, directionsTo, messageGraph, messageGraphOf, nodeAt}
 use Rattle.graph_laws.specs.DirectionNumbers.{getD-mapped, messageNodes-count, outs-count, first-next, first-zero, first-last}
-use Rattle.list_laws.specs.Part.{region}
 use Rattle.messages.specs.Layout.{firstsOf, outsOf}
-use Rattle.messages.specs.LayoutLists.{take-range, drop-range}
 
 -- ---- the row of firsts
 
@@ -90,55 +85,6 @@ module _ (t : MessageGraph) (O : InOrder t) where
     where
       outside : (x : MessageNode) → x ≡ noMessageNode → x .firstIncoming + length (x .outgoing) ≤ length (t .directions)
       outside x e = omega (arith, ap (λ (y : MessageNode). y .firstIncoming) e, ap (λ (y : MessageNode). length (y .outgoing)) e)
-
-  -- ---- rows, cut node by node
-
-  -- a row with an entry for each direction: what of it belongs to the nodes, one after the other
-  module _ {A : Type 0} (l : List A) (e : length l ≡ length (t .directions)) where
-    abbrev part : MessageNode → List A
-    part x = region l (x .firstIncoming) (length (x .outgoing))
-
-    pub by-nodes-to : (k : ℕ) → k ≤ length (t .nodes) → concat (map part (take k (t .nodes))) ≡ take (getD (firstsOf t) k 0) l
-    by-nodes-to zero h = ap (λ (n : ℕ). take n l) (sym (O .from-zero))
-    by-nodes-to (suc k) h =
-        let x = nodeAt t k in
-        ap (λ (xs : List MessageNode). concat (map part xs)) (take-suc (t .nodes) k noMessageNode h)
-        ∙ ap concat (map-append part (take k (t .nodes)) (x ∷ []))
-        ∙ concat-append (map part (take k (t .nodes))) (part x ∷ [])
-        ∙ ap (λ (r : List A). concat (map part (take k (t .nodes))) ++ r) (append-none (part x))
-        ∙ ap (λ (r : List A). r ++ part x) (by-nodes-to k (omega arith))
-        ∙ ap (λ (n : ℕ). take (getD (firstsOf t) k 0) l ++ take (length (x .outgoing)) (drop n l)) (sym (firsts-at t k h))
-        ∙ sym (take-add (getD (firstsOf t) k 0) (length (x .outgoing)) l)
-        ∙ ap (λ (n : ℕ). take n l) (sym (O .after k h))
-
-    pub by-nodes : concat (map part (t .nodes)) ≡ l
-    by-nodes =
-        ap (λ (xs : List MessageNode). concat (map part xs)) (sym (take-length (t .nodes))) ∙ by-nodes-to (length (t .nodes)) (omega arith)
-        ∙ take-all (getD (firstsOf t) (length (t .nodes)) 0) l (omega (arith, firsts-end t))
-
-  pub directions-by-nodes : concat (map (λ (x : MessageNode). region (t .directions) (x .firstIncoming) (length (x .outgoing))) (t .nodes)) ≡ t .directions
-  directions-by-nodes = by-nodes (t .directions) refl
-
-  pub messages-by-nodes : (ms : List Message) → length ms ≡ length (t .directions) → concat (map (λ (x : MessageNode). messagesIn x ms) (t .nodes)) ≡ ms
-  messages-by-nodes ms e = by-nodes ms e
-
-  -- the numbers of the directions
-  pub incoming-region : (n : ℕ) → incoming (nodeAt t n) ≡ region (range 0 (length (t .directions))) (nodeAt t n .firstIncoming) (length (nodeAt t n .outgoing))
-  incoming-region n =
-      let f = nodeAt t n .firstIncoming in
-      let k = length (nodeAt t n .outgoing) in
-      let D = length (t .directions) in
-      sym (take-range f k (D - f) (omega (arith, inside n)))
-      ∙ ap (λ (i : ℕ). take k (range i (D - f))) (let z : f ≡ 0 + f = omega arith in z)
-      ∙ ap (take k) (sym (drop-range 0 f (D - f)))
-      ∙ ap (λ (i : ℕ). take k (drop f (range 0 i))) (let z : f + (D - f) ≡ D = omega (arith, inside n) in z)
-
-  pub numbers-by-nodes : concat (map (λ (x : MessageNode). incoming x) (t .nodes)) ≡ range 0 (length (t .directions))
-  numbers-by-nodes =
-      let D = length (t .directions) in
-      ap concat (map-cong (λ (x : MessageNode). incoming x) (λ (x : MessageNode). region (range 0 D) (x .firstIncoming) (length (x .outgoing))) (t .nodes)
-      (All-numbered (λ (x : MessageNode). incoming x ≡ region (range 0 D) (x .firstIncoming) (length (x .outgoing))) noMessageNode (t .nodes) (λ n h. incoming-region n)))
-      ∙ by-nodes (range 0 D) (length-count 0 D)
 
 -- ---- the row of outgoing directions
 

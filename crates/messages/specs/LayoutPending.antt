@@ -1,6 +1,5 @@
 -- What is pending, and what waits, written for one direction of a list after the other.
 use Prim.Native.Nat.{ℕ, zero, suc, _+_, _-_, _≤_, _<_}
-use native.Mathlib.Numerals.{add-one}
 use native.Mathlib.Decide.{ℕ-discrete}
 use native.Mathlib.Omega.{arith}
 use mathlib.Core.Path.{_≡_, refl, sym, ap, _∙_}
@@ -8,11 +7,11 @@ use mathlib.Core.Logic.{by-cases}
 use mathlib.Core.Option.{Option, some}
 use mathlib.Core.List.{List, [], _∷_, _++_}
 use lib.Ieee.{Float}
-use lib.ListN.{length, getD, take, set}
-use lib.Seq.{take-suc, getD-set-same, getD-set-other}
+use lib.ListN.{length, getD, set}
+use lib.Seq.{getD-set-same, getD-set-other}
 use Rattle.definition.specs.Floats.{_⊕_, zeroᶠ}
 use Rattle.definition.specs.Run.{addPending, pushPriorities}
-use Rattle.graph_laws.specs.MessageCounts.{length-addTo}
+use Rattle.graph_laws.specs.MessageCounts.{length-addPending}
 use Rattle.messages.specs.LayoutLists.{getD-any}
 use Rattle.messages.specs.LayoutWords.{othersTo, others-none, others-same, others-next}
 
@@ -37,22 +36,6 @@ pub pushPriorities-one : (p : List Float) (os : List ℕ) (o : ℕ) (q : List (O
 unfolding pushPriorities
 pushPriorities-one p os o q = pushPriorities-append p os (o ∷ []) q
 
--- ---- a loop over a list: w is what the first i directions left (an entry that is there may be read with any default, d or z)
-module _ (os : List ℕ) (i : ℕ) (l : i < length os) where
-  pub pending-next : (r : Float) (p w : List Float) (d : Float) → getD os i 0 < length p → w ≡ addPending r (take i os) p → set w (getD os i 0) (getD w (getD os i 0) d ⊕ r) ≡ addPending r (take (i + 1) os) p
-  pending-next r p w d h e =
-      ap (λ (x : Float). set w (getD os i 0) (x ⊕ r)) (getD-any w (getD os i 0) d zeroᶠ (omega (arith, ap length e, length-addTo r (take i os) p)))
-      ∙ ap (λ (v : List Float). set v (getD os i 0) (getD v (getD os i 0) zeroᶠ ⊕ r)) e
-      ∙ sym (addPending-one r (take i os) (getD os i 0) p)
-      ∙ ap (λ (l : List ℕ). addPending r l p) (sym (take-suc os i 0 l) ∙ ap (λ (n : ℕ). take n os) (sym (add-one i)))
-
-  pub priorities-next : (p : List Float) (q w : List (Option Float)) (d : Float) → getD os i 0 < length p → w ≡ pushPriorities p (take i os) q → set w (getD os i 0) (some (getD p (getD os i 0) d)) ≡ pushPriorities p (take (i + 1) os) q
-  priorities-next p q w d h e =
-      ap (λ (x : Float). set w (getD os i 0) (some x)) (getD-any p (getD os i 0) d zeroᶠ h)
-      ∙ ap (λ (v : List (Option Float)). set v (getD os i 0) (some (getD p (getD os i 0) zeroᶠ))) e
-      ∙ sym (pushPriorities-one p (take i os) (getD os i 0) q)
-      ∙ ap (λ (l : List ℕ). pushPriorities p l q) (sym (take-suc os i 0 l) ∙ ap (λ (n : ℕ). take n os) (sym (add-one i)))
-
 -- ---- a loop over the words from f on that passes over d: w is what the words before k left
 module _ (outs : List ℕ) (f d : ℕ) (before : f ≤ d) where
   pub pending-none : (r : Float) (p : List Float) → p ≡ addPending r (othersTo outs f d f) p
@@ -73,7 +56,7 @@ module _ (outs : List ℕ) (f d : ℕ) (before : f ≤ d) where
   module _ (k : ℕ) (from : f ≤ k) (l : k < length outs) (other : k ≡ d → ⊥) where
     pub pending-step : (r : Float) (p w : List Float) (z : Float) → getD outs k 0 < length p → w ≡ addPending r (othersTo outs f d k) p → set w (getD outs k 0) (getD w (getD outs k 0) z ⊕ r) ≡ addPending r (othersTo outs f d (k + 1)) p
     pending-step r p w z h e =
-        ap (λ (x : Float). set w (getD outs k 0) (x ⊕ r)) (getD-any w (getD outs k 0) z zeroᶠ (omega (arith, ap length e, length-addTo r (othersTo outs f d k) p)))
+        ap (λ (x : Float). set w (getD outs k 0) (x ⊕ r)) (getD-any w (getD outs k 0) z zeroᶠ (omega (arith, ap length e, length-addPending r (othersTo outs f d k) p)))
         ∙ ap (λ (v : List Float). set v (getD outs k 0) (getD v (getD outs k 0) zeroᶠ ⊕ r)) e
         ∙ sym (addPending-one r (othersTo outs f d k) (getD outs k 0) p)
         ∙ ap (λ (l : List ℕ). addPending r l p) (sym (others-next outs f d before k from l other))
@@ -124,7 +107,7 @@ module _ (outs : List ℕ) (f d : ℕ) (before : f ≤ d) where
         (λ (e : f + n ≡ k).
         ap (λ (w : List Float). getD w o zeroᶠ) (step n (omega arith) (λ y. other (sym e ∙ y)))
         ∙ ap (λ (m : ℕ). getD (set (after n) (getD outs m 0) (getD (after n) (getD outs m 0) zeroᶠ ⊕ r)) o zeroᶠ) e
-        ∙ getD-set-same (after n) o (getD (after n) o zeroᶠ ⊕ r) zeroᶠ (omega (arith, length-addTo r (othersTo outs f d (f + n)) p))
+        ∙ getD-set-same (after n) o (getD (after n) o zeroᶠ ⊕ r) zeroᶠ (omega (arith, length-addPending r (othersTo outs f d (f + n)) p))
         ∙ ap (λ (x : Float). x ⊕ r) (not-yet n (omega arith)))
         (λ e. elsewhere n (omega arith) e ∙ done other n (omega arith) (omega arith))
 

@@ -19,10 +19,6 @@ module _ {A : Type 0} where
   unfolding puts
   puts-none l at s = refl
 
-  pub puts-suc : (l : List A) (at : ℕ → ℕ) (s : ℕ → List A) (n : ℕ) → puts l at s (suc n) ≡ put (puts l at s n) (at n) (s n)
-  unfolding puts
-  puts-suc l at s n = refl
-
   -- what a loop's proof cites: w is what n rounds left, and m is put at a
   pub puts-next : (l w : List A) (at : ℕ → ℕ) (s : ℕ → List A) (n a : ℕ) (m : List A) → w ≡ puts l at s n → a ≡ at n → m ≡ s n → put w a m ≡ puts l at s (n + 1)
   unfolding puts

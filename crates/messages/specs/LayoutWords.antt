@@ -12,14 +12,13 @@ use Rattle.definition.specs.Vectors.{Message}
 use Rattle.definition.specs.Directions.{Direction, MessageGraph, noDirection, nodeAt, directionAt, messageAt, messagesIn}
 use Rattle.definition.specs.Run.{neighbourNumbers, otherOutgoing}
 use Rattle.graph_laws.specs.DirectionNumbers.{getD-mapped}
-use Rattle.graph_laws.specs.Flat.{flat}
 use Rattle.graph_laws.specs.Lists.{append-none}
 use Rattle.list_laws.specs.Part.{region, getD-region, length-region}
 use Rattle.list_laws.specs.Put.{put}
 use Rattle.messages.specs.Layout.{cut, width}
 use Rattle.messages.specs.LayoutLists.{drop-take, map-take, map-drop, region-suc}
 use Rattle.messages.specs.LayoutOffsets.{longAt, offsetAt, TwoLong}
-use Rattle.messages.specs.LayoutCut.{cut-at, rowIn, flat-messagesIn}
+use Rattle.messages.specs.LayoutCut.{cut-at, rowIn}
 use Rattle.messages.specs.LayoutPairs.{pairs, messagesIn-pairs}
 use Rattle.messages.specs.LayoutPuts.{puts-next}
 use Rattle.messages.specs.LayoutWrite.{cut-put, sent}
@@ -118,10 +117,6 @@ module _ (t : MessageGraph) (kinds firsts starts outs offsets : List ℕ) (Q : R
     -- all that it holds
     pub inside-row : nodeAt t n .firstIncoming + length (nodeAt t n .outgoing) ≤ length (t .directions)
     inside-row = omega (arith, Q .next n h, Q .first-le (n + 1) (omega arith))
-
-    pub held-row : (r : List Float) → length r ≡ width (t .directions) → flat (messagesIn (nodeAt t n) (cut (t .directions) r))
-        ≡ region r (getD offsets (getD firsts n 0) 0) (getD offsets (getD firsts (n + 1) 0) 0 - getD offsets (getD firsts n 0) 0)
-    held-row r z = flat-messagesIn (nodeAt t n) (t .directions) r inside-row z ∙ row-in r
 
     pub held-pairs : (r : List Float) → length r ≡ width (t .directions) → TwoLong (t .directions) (nodeAt t n .firstIncoming) (length (nodeAt t n .outgoing))
         → messagesIn (nodeAt t n) (cut (t .directions) r) ≡ pairs (region r (getD offsets (getD firsts n 0) 0) (getD offsets (getD firsts (n + 1) 0) 0 - getD offsets (getD firsts n 0) 0))

@@ -18,7 +18,7 @@ use Rattle.list_laws.specs.Part.{length-region}
 use Rattle.list_laws.specs.Put.{put, length-put}
 use Rattle.messages.specs.Layout.{cut, width}
 use Rattle.messages.specs.LayoutOffsets.{longAt, offsetAt, offset-suc, offset-room, span-end, span-room}
-use Rattle.messages.specs.LayoutCut.{SetFits, length-cut, flat-cut, cut-fits, cut-of, cut-long, flat-take, flat-drop, rowIn, flat-messagesIn, length-rowIn}
+use Rattle.messages.specs.LayoutCut.{SetFits, length-cut, cut-fits, cut-of, cut-long, flat-take, flat-drop, rowIn, flat-messagesIn, length-rowIn}
 use Rattle.messages.specs.LayoutPuts.{puts, puts-first, length-puts}
 
 pub flat-append : (ms ns : List Message) → flat (ms ++ ns) ≡ flat ms ++ flat ns
@@ -130,7 +130,3 @@ module _ (ds : List Direction) where
       ap (setMessages os ms) (sym (cut-put ds r o m e (T .there) (T .long)))
       ∙ setMessages-cut os ms (put r (offsetAt ds o) m) (length-put-at ds r o m e (T .there) (T .long)) (omega arith) (λ k q. h (suc k) (omega arith))
       ∙ ap (cut ds) (sym (puts-first r (λ k. offsetAt ds (getD (o ∷ os) k 0)) (λ k. messageAt k (m ∷ ms)) (length os)))
-
-  pub flat-setMessages : (os : List ℕ) (ms : List Message) (r : List Float) → length r ≡ width ds → length ms ≡ length os → ((k : ℕ) → k < length os → Takes ds (getD os k 0) (messageAt k ms))
-      → flat (setMessages os ms (cut ds r)) ≡ sent ds os ms r (length os)
-  flat-setMessages os ms r e c h = ap flat (setMessages-cut os ms r e c h) ∙ flat-cut ds (sent ds os ms r (length os)) (length-sent os ms r (length os) e h)

@@ -3,7 +3,7 @@ use mathlib.Core.Path.{_≡_, refl, sym, ap, _∙_}
 use mathlib.Core.Bool.{Bool, true, false, not, _&&_, _||_}
 use mathlib.Core.Option.{some}
 use mathlib.Core.List.{List, [], _∷_}
-use Prim.Native.Nat.{ℕ, suc, _+_, _-_, _*_, _/_, _≤_, _<_}
+use Prim.Native.Nat.{ℕ, suc, _+_, _-_, _/_, _≤_, _<_}
 use native.Mathlib.Nat.{le-of-eq}
 use native.Mathlib.Numerals.{add-one}
 use native.Mathlib.Omega.{arith}
@@ -12,10 +12,9 @@ use lib.Seq.{drop-cons, take-all}
 use lib.Ieee.{Float, nan, lt, eq, ne}
 use Rattle.definition.specs.Floats.{_⊕_, _⊗_, zeroᶠ, twoᶠ}
 use Rattle.definition.specs.Vectors.{Message}
-use Rattle.definition.specs.Directions.{Direction, messageAt}
+use Rattle.definition.specs.Directions.{messageAt}
 use Rattle.definition.specs.Messages.{equalMessages, messageChange, changeExceeds, needsRebuild}
-use Rattle.messages.specs.Layout.{cut}
-use Rattle.messages.specs.Pairs.{pairs, length-pairs, Twos, pairs-cut}
+use Rattle.messages.specs.Pairs.{pairs, length-pairs}
 
 -- the messages of a tree over n grades: its factor's, then the grades'
 abbrev pub treeRow : ℕ → List Float → List Message
@@ -105,11 +104,3 @@ module _ (t : Float) (m o : Message) (ms os : List Message) (r : Bool) (e : r �
 
   pub rebuild-change : not r ≡ false → changeExceeds t zeroᶠ ms os ≡ needsRebuild t (m ∷ ms) (some (o ∷ os))
   rebuild-change f = by-test false f
-
--- a tree's row cut by its directions: first its factor's, then the grades'
-pub treeRow-cut :
-    (d : Direction) (ds : List Direction) (n : ℕ) (l : List Float) →
-    d .messageLength ≡ n + 1 → Twos ds → length ds ≡ n → length l ≡ 3 * n + 1 → cut (d ∷ ds) l ≡ treeRow n l
-treeRow-cut d ds n l e t h g =
-    let k : length (drop (n + 1) l) ≡ 2 * length ds = length-drop (n + 1) l ∙ (let z : length l - (n + 1) ≡ 2 * length ds = omega arith in z) in
-    ap {B = List Message} (λ (m : ℕ). take m l ∷ cut ds (drop m l)) e ∙ ap {B = List Message} (λ r. take (n + 1) l ∷ r) (pairs-cut ds (drop (n + 1) l) t k)

@@ -1,7 +1,7 @@
 -- What the lent floats and words of a component mean: every content is some state of the definition's schedule.
 use Prim.Native.Nat.{ℕ, zero, suc, _+_, _*_, _≤_, _<_}
 use mathlib.Core.Path.{_≡_}
-use mathlib.Core.Bool.{Bool, false}
+use mathlib.Core.Bool.{false}
 use mathlib.Core.Option.{none, some}
 use mathlib.Core.List.{List, [], _∷_, _++_}
 use lib.Ieee.{Float}
@@ -22,11 +22,6 @@ use Rattle.messages.specs.Layout.{cut, width, kindCode, GraphRows}
 use Rattle.messages.specs.LayoutOrder.{InOrder}
 
 -- ---- the component that the words stand for
-
--- the settings as they come, one by one
-abbrev pub settingsWith : Float → Float → Float → Bool → Float → ℕ → Settings
-settingsWith alpha beta prior regularised tolerance limit =
-    record { alpha = alpha; beta = beta; prior = prior; regularised = regularised; tolerance = tolerance; loopLimit = limit }
 
 -- an input's evidence stands at its label in the lent evidence
 abbrev pub HasEvidence : Kind → ℕ → List Float → Type 0

@@ -1,28 +1,24 @@
 -- What a variable sends, from the sums and logarithms that the source has at hand.
 use mathlib.Core.Path.{_≡_, refl, sym, ap, _∙_, subst}
 use mathlib.Core.Bool.{Bool, true, false}
-use mathlib.Core.List.{List, [], _∷_, _++_, map}
-use Prim.Native.Nat.{ℕ, suc, _+_, _/_, _≤_, _<_}
-use native.Mathlib.Nat.{add-zero, zero-add, add-suc, suc-add}
+use mathlib.Core.List.{List, map}
+use Prim.Native.Nat.{ℕ, _/_, _≤_, _<_}
 use native.Mathlib.Omega.{arith}
 use lib.Dec.{T, leb, leb→le, le→leb, not-T}
 use lib.IntN.{pos}
-use lib.ListN.{length, set}
+use lib.ListN.{length}
 use lib.Ieee.{Float, fin, le, ofInt, neg}
 use lib.Ieee.Bits.{is-true, is-false}
 use lib.Ieee.Scale.{finite}
 use Rattle.float_laws.specs.Interval.{in-finite, add-test, add-in, sub-test, sub-in}
 use Rattle.definition.specs.Floats.{_⊕_, _⊖_, zeroᶠ, ln}
-use Rattle.definition.specs.Lists.{range}
-use Rattle.definition.specs.Vectors.{Message, entry, binary, sumOf, avoidUnderflowAll, logNormalize, sumLogsBatched}
+use Rattle.definition.specs.Vectors.{Message, entry, sumOf, avoidUnderflowAll, logNormalize, sumLogsBatched}
 use Rattle.definition.specs.Directions.{messageAt}
 use Rattle.definition.specs.Messages.{outMessageLog, outMessageVariable}
-use Rattle.definition.specs.Sweeps.{logTotal, leaveOneOut, openingVariable}
+use Rattle.definition.specs.Sweeps.{logTotal, leaveOneOut}
 use Rattle.definition.specs.Answer.{logMarginal, marginal}
 use Rattle.message_bounds.specs.Variable.{sum-logs-in}
-use Rattle.graph_laws.specs.Flat.{flat}
 use Rattle.array_utils.specs.Columns.{column, length-column}
-use Rattle.messages.specs.Pairs.{none-left, one-written}
 use Rattle.messages.specs.Logarithms.{Wide, summed}
 
 -- ---- whether there is more than one neighbour
@@ -81,34 +77,6 @@ module _ (b : Message) (ms : List Message) where
             s ≡ s′ → p ≡ p′ → t ≡ t′ → q ≡ q′ → avoidUnderflowAll (logNormalize (s ⊖ x ⊕ p) (t ⊖ y ⊕ q)) ≡ avoidUnderflowAll (logNormalize (s′ ⊖ x ⊕ p′) (t′ ⊖ y ⊕ q′))
         two x y s p t q s′ p′ t′ q′ a b c d = rw (a, b, c, d)
 
--- ---- to all neighbours, in order
-
-abbrev pub outMessagesVariable : Message → List Message → List Message
-outMessagesVariable b ms = map (outMessageVariable b ms) (range 0 (length ms))
-
-by-position : (f : Message → Message) (g : ℕ → Message) (ms : List Message) (k : ℕ) → ((i : ℕ) → f (messageAt i ms) ≡ g (k + i)) → map f ms ≡ map g (range k (length ms))
-by-position f g [] k h = refl
-by-position f g (m ∷ ms) k h =
-    ap {B = List Message} (λ (x : Message). x ∷ map f ms) (h 0 ∙ ap g (add-zero k))
-    ∙ ap {B = List Message} (λ r. g k ∷ r) (by-position f g ms (suc k) (λ i. h (suc i) ∙ ap g (add-suc k i ∙ sym (suc-add k i))))
-
-pub outs-many :
-    (b : Message) (ms : List Message) (s p : Message) (l : List Float) →
-    1 < length ms → entry 0 s ≡ sumLogsBatched (map (entry 0) ms) → entry 1 s ≡ sumLogsBatched (map (entry 1) ms) → entry 0 p ≡ ln (entry 0 b) → entry 1 p ≡ ln (entry 1 b) → l ≡ flat (map (outFromSums s p) ms) → l ≡ flat (outMessagesVariable b ms)
-outs-many b ms s p l h e f g k q =
-    q ∙ ap flat (by-position (outFromSums s p) (outMessageVariable b ms) ms 0 (λ i. out-many b ms s p h e f g k i ∙ ap (outMessageVariable b ms) (sym (zero-add i))))
-
-pub outs-none : (b : Message) (ms : List Message) (l : List Float) → length ms ≡ 0 → length l ≡ 0 → l ≡ flat (outMessagesVariable b ms)
-unfolding flat
-outs-none b [] l h g = none-left l g
-outs-none b (m ∷ ms) l h g = absurd (let z : ⊥ = omega arith in z)
-
-pub outs-one : (x y : Float) (ms : List Message) (l : List Float) → length ms ≡ 1 → length l ≡ 2 → set (set l 0 x) 1 y ≡ flat (outMessagesVariable (binary x y) ms)
-unfolding flat
-outs-one x y [] l h g = absurd (let z : ⊥ = omega arith in z)
-outs-one x y (m ∷ n ∷ ms) l h g = absurd (let z : ⊥ = omega arith in z)
-outs-one x y (m ∷ []) l h g = one-written x y l g ∙ ap (λ (r : Message). r ++ []) (out-single (binary x y) (m ∷ []) 0 (omega arith))
-
 -- ---- the opening
 
 pub less-finite : (p o : Float) → Wide 100000 p → Wide 91 o → T (finite (p ⊖ o))
@@ -127,34 +95,6 @@ total-is k b ms a s e f = f ∙ ap (λ (z : Float). summed k z ms) e
 pub left-two : (p q : Float) (m : Message) → length (leaveOneOut p q m) ≡ 2
 unfolding leaveOneOut avoidUnderflowAll logNormalize
 left-two p q m = refl
-
--- by the number of neighbours
-module _ (b : Message) (ms : List Message) where
-  opened : (t : Bool) → leb (length ms) 1 ≡ t → openingVariable b ms ≡ elim t as (λ (u : Bool). List Message) [ true ↦ map (λ (m : Message). b) ms | false ↦ map (leaveOneOut (logTotal 0 b ms) (logTotal 1 b ms)) ms ]
-  unfolding openingVariable
-  opened t e = ap (λ (u : Bool). elim u as (λ (v : Bool). List Message) [ true ↦ map (λ (m : Message). b) ms | false ↦ map (leaveOneOut (logTotal 0 b ms) (logTotal 1 b ms)) ms ]) e
-
-  pub opening-many : (p q : Float) (l : List Float) → 1 < length ms → p ≡ logTotal 0 b ms → q ≡ logTotal 1 b ms → l ≡ flat (map (leaveOneOut p q) ms) → l ≡ flat (openingVariable b ms)
-  opening-many p q l h e f g =
-      g
-      ∙ ap (λ (z : Float). flat (map (leaveOneOut z q) ms)) e
-      ∙ ap (λ (z : Float). flat (map (leaveOneOut (logTotal 0 b ms) z) ms)) f
-      ∙ ap flat (sym (opened false (several (length ms) h)))
-
-  few : length ms ≤ 1 → openingVariable b ms ≡ map (λ (m : Message). b) ms
-  few h = opened true (single (length ms) h)
-
--- none, and one: the belief
-pub opening-none : (b : Message) (ms : List Message) (l : List Float) → length ms ≡ 0 → length l ≡ 0 → l ≡ flat (openingVariable b ms)
-unfolding flat
-opening-none b [] l h g = none-left l g ∙ ap flat (sym (few b [] (omega arith)))
-opening-none b (m ∷ ms) l h g = absurd (let z : ⊥ = omega arith in z)
-
-pub opening-one : (x y : Float) (ms : List Message) (l : List Float) → length ms ≡ 1 → length l ≡ 2 → set (set l 0 x) 1 y ≡ flat (openingVariable (binary x y) ms)
-unfolding flat
-opening-one x y [] l h g = absurd (let z : ⊥ = omega arith in z)
-opening-one x y (m ∷ n ∷ ms) l h g = absurd (let z : ⊥ = omega arith in z)
-opening-one x y (m ∷ []) l h g = one-written x y l g ∙ ap flat (sym (few (binary x y) (m ∷ []) (omega arith)))
 
 -- ---- the belief at the end
 

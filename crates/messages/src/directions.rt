@@ -8,7 +8,7 @@ ghost use Rattle.definition.specs.Directions.{messageGraph};
 ghost use Rattle.list_laws.specs.Put.{put};
 ghost use Rattle.messages.specs.DirectionsRecord.{firstsPlace, Recorded};
 ghost use Rattle.messages.specs.DirectionsRows.{directionRows};
-ghost use Rattle.messages.specs.Directions.{farNode, placeInFar, directionStep, StepFits, Filled, Held, Ready};
+ghost use Rattle.messages.specs.Directions.{farNode, placeInFar, directionStep, StepFits, Filled, SomeFilled, Ready};
 ghost use Rattle.messages.specs.DirectionsRead.{kindsRow, labelsRow, firstsRow, startsRow, outsRow, offsetsRow, RecordFits, RowsFit};
 
 // A word as an index.
@@ -69,7 +69,7 @@ fn fill_direction(
 
 // The directions that end at node n, slot by slot.
 fn fill_node(words: &mut [u32], at: usize, nodes: usize, edges: usize, out: usize, n: usize)
-    requires { ⌜ (n < nodes) × Held (now words) at nodes edges out (getD (now words) (firstsPlace at nodes + n) 0) ⌝ }
+    requires { ⌜ (n < nodes) × SomeFilled (now words) at nodes edges out (getD (now words) (firstsPlace at nodes + n) 0) ⌝ }
     ensures { λ _. ⌜ ((base labels : List ℕ) (g : Subgraph) → Filled base at out labels g (getD (now (words .entry)) (firstsPlace at nodes + n) 0) (now (words .entry)) → Filled base at out labels g (getD (now (words .entry)) (firstsPlace at nodes + n + 1) 0) (now (words .exit))) ⌝ }
 {
     let first = at + 2 + 2 * nodes + n;

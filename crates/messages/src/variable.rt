@@ -1,15 +1,13 @@
 // What a variable sends: `compute_out_message_variable`. Its incoming messages lie in one row, two floats each.
 ghost use mathlib.Core.Path.{_≡_};
-ghost use mathlib.Core.List.{map};
-ghost use Prim.Native.Nat.{_*_, _/_, _≤_, _<_};
+ghost use Prim.Native.Nat.{_/_, _≤_, _<_};
 ghost use lib.ListN.{length};
 ghost use Rattle.definition.specs.Vectors.{binary};
 ghost use Rattle.definition.specs.Messages.{outMessageVariable};
-ghost use Rattle.graph_laws.specs.Flat.{flat};
 ghost use Rattle.array_utils.specs.LogTable.{logTable};
 ghost use Rattle.messages.specs.Pairs.{pairs};
 ghost use Rattle.messages.specs.Logarithms.{Wide};
-ghost use Rattle.messages.specs.Variable.{outFromSums, outMessagesVariable};
+ghost use Rattle.messages.specs.Variable.{outFromSums};
 use crate::rows::logs;
 use crate::rows::message_at;
 use array_utils::VariableMessage;
@@ -50,52 +48,4 @@ pub fn out_message_variable(
     let sum = array_utils::sum_logs_batched(table, rows);
     let prior = logs(table, belief);
     out_from_sums(table, sum, prior, message_at(rows, i))
-}
-
-// All messages of a variable with several neighbours.
-fn out_each(
-    table: &[f32; 1025],
-    sum: VariableMessage,
-    prior: VariableMessage,
-    rows: &[f32],
-    out: &mut [f32],
-)
-    requires { ⌜ now table ≡ logTable ⌝ }
-    requires { ⌜ Wide 10000 (sum .absent) × Wide 10000 (sum .present) × Wide 91 (prior .absent) × Wide 91 (prior .present) ⌝ }
-    requires { ⌜ length (now out) ≡ 2 * (length (now rows) / 2) ⌝ }
-    ensures { λ _. ⌜ now (out .exit) ≡ flat (map (outFromSums (binary (sum .absent) (sum .present)) (binary (prior .absent) (prior .present))) (pairs (now (rows .entry)))) ⌝ }
-{
-    let n = rows.len() / 2;
-    let mut i = 0;
-    while i < n {
-        let m = out_from_sums(table, sum, prior, message_at(rows, i));
-        out[2 * i] = m.absent;
-        out[2 * i + 1] = m.present;
-        i += 1;
-    }
-}
-
-// To all neighbours in order, two floats each: the sums are taken once, and not for each neighbour anew as in the Rust.
-pub fn out_messages_variable(
-    table: &[f32; 1025],
-    belief: VariableMessage,
-    rows: &[f32],
-    out: &mut [f32],
-)
-    requires { ⌜ now table ≡ logTable ⌝ }
-    requires { ⌜ (length (now rows) / 2 ≤ 1024) × (length (now out) ≡ 2 * (length (now rows) / 2)) ⌝ }
-    ensures { λ _. ⌜ now (out .exit) ≡ flat (outMessagesVariable (binary (belief .absent) (belief .present)) (pairs (now (rows .entry)))) ⌝ }
-{
-    let n = rows.len() / 2;
-    if n == 0 {
-        return;
-    }
-    if n == 1 {
-        out[0] = belief.absent;
-        out[1] = belief.present;
-        return;
-    }
-    let sum = array_utils::sum_logs_batched(table, rows);
-    let prior = logs(table, belief);
-    out_each(table, sum, prior, rows, out);
 }

@@ -7,7 +7,7 @@ use native.Mathlib.Omega.{arith}
 use lib.ListN.{length, getD, length-map}
 use lib.Ieee.{Float, nan}
 use Rattle.definition.specs.Floats.{_⊕_, _⊖_, _⊗_, _⊘_, zeroᶠ, oneᶠ, avoidUnderflow, ofNat, powi}
-use Rattle.definition.specs.Vectors.{sumFrom, avoidUnderflowAll}
+use Rattle.definition.specs.Vectors.{sumOf, avoidUnderflowAll}
 use Rattle.definition.specs.Lists.{range}
 use Rattle.definition.specs.Settings.{Settings}
 use Rattle.definition.specs.NoisyOr.{CpdRow, cpdAbsent, cpdAbsentRegularised, cpdRow, cpdRows, cpdTable}
@@ -110,7 +110,7 @@ divided f [] = refl
 divided f (r ∷ rs) = ap {B = List Float} (λ l. f (r .absent) ∷ f (r .present) ∷ l) (divided f rs)
 
 abbrev pub rowTotal : Settings → ℕ → Float
-rowTotal s d = sumFrom zeroᶠ (sums (cpdRows s d))
+rowTotal s d = sumOf (sums (cpdRows s d))
 
 pub table-plain : (s : Settings) (d : ℕ) → s .regularised ≡ false → map (λ (x : Float). x ⊘ rowTotal s d) (flatRows (cpdRows s d)) ≡ flatRows (cpdTable s d)
 unfolding cpdTable

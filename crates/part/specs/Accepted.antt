@@ -19,7 +19,7 @@ use Rattle.graph_laws.specs.Accepted.{Passes, passes-all, Sized, sized, valid}
 use Rattle.graph_laws.specs.LocalAnswer.{is-part}
 use Rattle.graph_laws.specs.Consistency.{Consistent, consistent, nodes-of}
 use Rattle.graph_laws.specs.DirectionNumbers.{getD-mapped, messageNode-kind}
-use Rattle.graph_laws.specs.Structure.{components-kept}
+use Rattle.graph_laws.specs.Structure.{part-graph-kept}
 use Rattle.graph_laws.specs.AnswerSizes.{messageGraph-length}
 use Rattle.factor_graph.specs.Words.{label}
 use Rattle.priorities.specs.Leaves.{leavesFor, leaves-tight}
@@ -113,7 +113,7 @@ module _ (s : Settings) (f : Buffers) (b : Bale) (n : ℕ) (p : List Node) (h : 
             subgraph = subgraphOf b p;
             consistent = fits;
             in-order = in-order-of b p;
-            kept = components-kept (λ m. Unit {0}) s f b n p h (All-every (λ e. Unit {0}) (λ e. tt) (b .markers));
+            kept = part-graph-kept (λ m. Unit {0}) s f b n p h (All-every (λ e. Unit {0}) (λ e. tt) (b .markers));
             factors = part-factors b ok p is large;
             labels-long = ap length labels ∙ length-map p label ∙ sym (messageGraph-length b p);
             inputs =

@@ -14,11 +14,11 @@ use Rattle.messages.specs.Layout.{cut, width}
 use Rattle.messages.specs.DirectionsRead.{kindsRow, labelsRow, firstsRow, startsRow, outsRow, offsetsRow}
 use Rattle.messages.specs.State.{PartRows, storeOf}
 use Rattle.steps.specs.StepLog.{NodeIn, beginsAt, endsAt}
-use Rattle.zero_lookahead.specs.Part.{Stands}
+use Rattle.zero_lookahead.specs.Part.{StandsFor}
 use Rattle.part.specs.Named.{Named}
 
 -- node n's messages lie within the floats, and are few
-pub record Held (firsts offsets : List ℕ) (n long : ℕ) : Type 0 where
+pub record NodeHeld (firsts offsets : List ℕ) (n long : ℕ) : Type 0 where
   pub node : NodeIn firsts offsets n
   pub inside : endsAt firsts offsets n ≤ long
   pub few : (endsAt firsts offsets n - beginsAt firsts offsets n) / 2 ≤ 1024
@@ -48,7 +48,7 @@ pub record SomeRows (prior : Float) (kinds labels firsts offsets : List ℕ) (w 
 
 -- ---- of a part that stands for a store
 
-module _ (s : Settings) (t : MessageGraph) (out : ℕ) (evidence : List Float) (x : Store) (words : List ℕ) (w : List Float) (S : Stands s t out evidence x words w)
+module _ (s : Settings) (t : MessageGraph) (out : ℕ) (evidence : List Float) (x : Store) (words : List ℕ) (w : List Float) (S : StandsFor s t out evidence x words w)
     (ns : List Node) (N : Named t ns (labelsRow words 0)) where
   whole : BeliefRows s t (x .msgIn) ns (kindsRow words 0) (labelsRow words 0) (firstsRow words 0) (offsetsRow words 0 out) w
   unfolding storeOf

@@ -29,7 +29,7 @@ use Rattle.messages.specs.LayoutKinds.{grade-two}
 use Rattle.sweeps.specs.SweepRows.{region-front, read-rows, variable-fits}
 use Rattle.steps.specs.StepLog.{words-of, NodeIn, node-in, total-is, beginsAt, endsAt}
 use Rattle.part.specs.Named.{isGradeNode}
-use Rattle.part.specs.Beliefs.{Held, BeliefRows}
+use Rattle.part.specs.Beliefs.{NodeHeld, BeliefRows}
 
 -- ---- lists of nodes, one after the other
 
@@ -152,7 +152,7 @@ module _ (s : Settings) (t : MessageGraph) (ms : List Message) (ns : List Node) 
           let P = variable-fits s t kinds firsts (R .starts) (R .outs) offsets labels (R .evidence) (R .rows) n there (inl code) (W + W) (omega arith) in
           omega (arith, e, length-rowIn-two x (t .directions) (R .rIn) i (R .long) two, P .few, length-region (R .rIn) o span (omega (arith, inside .in-turn, ends)))
 
-      pub grade-held : Held firsts offsets n (length w)
+      pub grade-held : NodeHeld firsts offsets n (length w)
       grade-held =
           record { node = inside; inside = omega (arith, ends, ap length (R .is), length-append (R .rIn) (R .rest)); few = few }
 

@@ -2,21 +2,20 @@
 use Prim.Native.Nat.{ℕ, _+_, _*_, _<_}
 use native.Mathlib.Omega.{arith}
 use mathlib.Core.Path.{_≡_, refl, sym, ap, _∙_}
-use mathlib.Core.List.{List, [], _∷_, _++_, map-append, append-assoc}
+use mathlib.Core.List.{List, [], _∷_, _++_, map-append}
 use lib.Ieee.{Float, nan}
 use lib.ListN.{length, set, length-append}
 use Rattle.definition.specs.Vectors.{binary}
 use Rattle.definition.specs.Answer.{Belief, beliefNumbers, beliefFloats}
 use Rattle.definition.specs.Call.{overwrite}
 use Rattle.graph_laws.specs.Lists.{append-none}
-use Rattle.graph_laws.specs.AnswerSizes.{numbers-length}
+use Rattle.graph_laws.specs.AnswerSizes.{numbers-length, floats-append}
 use Rattle.graph_laws.specs.Overwriting.{over-one, over-two}
 use Rattle.part.specs.Named.{Believed}
 
-floats-append : (bs : List Belief) (b : Belief) → beliefFloats (bs ++ (b ∷ [])) ≡ beliefFloats bs ++ b .value
+floats-snoc : (bs : List Belief) (b : Belief) → beliefFloats (bs ++ (b ∷ [])) ≡ beliefFloats bs ++ b .value
 unfolding beliefFloats
-floats-append [] b = append-none (b .value)
-floats-append (c ∷ bs) b = ap (λ (l : List Float). c .value ++ l) (floats-append bs b) ∙ sym (append-assoc (c .value) (beliefFloats bs) (b .value))
+floats-snoc bs b = floats-append bs (b ∷ []) ∙ ap (λ (l : List Float). beliefFloats bs ++ l) (append-none (b .value))
 
 numbers-append : (bs : List Belief) (b : Belief) → beliefNumbers (bs ++ (b ∷ [])) ≡ beliefNumbers bs ++ (b .grade ∷ [])
 unfolding beliefNumbers
@@ -42,5 +41,5 @@ module _ (bs : List Belief) (b : Belief) (numbers : List ℕ) (floats : List Flo
         floats-are =
             ap (λ (l : List Float). set (set l (2 * k) x) (2 * k + 1) y) (H .floats-are)
             ∙ over-two nan (beliefFloats bs) floats (2 * k) x y f g
-            ∙ ap (λ (l : List Float). overwrite l floats) (ap (λ (l : List Float). beliefFloats bs ++ l) e ∙ sym (floats-append bs b));
+            ∙ ap (λ (l : List Float). overwrite l floats) (ap (λ (l : List Float). beliefFloats bs ++ l) e ∙ sym (floats-snoc bs b));
       }

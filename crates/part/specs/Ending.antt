@@ -6,7 +6,7 @@ use lib.Ieee.{Float}
 use Rattle.definition.specs.Settings.{Settings}
 use Rattle.definition.specs.Directions.{MessageGraph}
 use Rattle.definition.specs.Run as run
-use Rattle.zero_lookahead.specs.Part.{Stands}
+use Rattle.zero_lookahead.specs.Part.{StandsFor}
 use Rattle.part.specs.declared.run.Ending.{Ending}
 use Rattle.part.specs.declared.run.Ending.the-variants.{Limit, Settled, Empty}
 
@@ -19,7 +19,7 @@ endingFrom Empty = run.empty
 pub record Ends (s : Settings) (t : MessageGraph) (out : ℕ) (evidence : List Float) (e : run.Ended) (ending : Ending) (steps : ℕ) (words : List ℕ) (w : List Float) : Type 0 where
   pub ending-is : endingFrom ending ≡ e .ending
   pub steps-are : steps ≡ e .state .steps
-  pub stands : Stands s t out evidence (e .state .store) words w
+  pub stands : StandsFor s t out evidence (e .state .store) words w
 
 -- the part has run to its end
 abbrev pub Ran : Settings → MessageGraph → ℕ → List Float → Ending → ℕ → List ℕ → List Float → Type 0

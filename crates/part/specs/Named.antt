@@ -13,7 +13,7 @@ use Rattle.definition.specs.Answer.{Belief, beliefsAmong, beliefNumbers, belief
 use Rattle.definition.specs.Call.{overwrite}
 use Rattle.factor_graph.specs.Words.{label}
 use Rattle.messages.specs.DirectionsRead.{labelsRow}
-use Rattle.zero_lookahead.specs.Part.{Given, Stands}
+use Rattle.zero_lookahead.specs.Part.{Given, StandsFor}
 use Rattle.zero_lookahead.specs.declared.settings.Settings.{Settings}
 
 abbrev pub isGradeNode : Node → Bool
@@ -41,7 +41,7 @@ pub record SomeBeliefs (g : Settings) (out : ℕ) (words : List ℕ) (w : List F
   pub evidence : List Float
   pub store : Store
   pub names : List Node
-  pub stands : Stands settings graph out evidence store words w
+  pub stands : StandsFor settings graph out evidence store words w
   pub named : Named graph names (labelsRow words 0)
   pub numbers-room : length (beliefsAmong settings (store .msgIn) names (graph .nodes)) ≤ m
   pub floats-room : 2 * length (beliefsAmong settings (store .msgIn) names (graph .nodes)) ≤ k

@@ -20,7 +20,7 @@ use Rattle.messages.specs.State.{changedOf, all}
 use Rattle.steps.specs.StepChanged.{changedFrom}
 use Rattle.steps.specs.declared.log.Changed.{Changed}
 use Rattle.steps.specs.declared.log.Changed.the-variants.{All}
-use Rattle.zero_lookahead.specs.Part.{Given, Stands, Runs}
+use Rattle.zero_lookahead.specs.Part.{Given, StandsFor, Runs}
 use Rattle.part.specs.Ending.{endingFrom, Ends}
 use Rattle.zero_lookahead.specs.declared.settings.Settings.{Settings}
 use Rattle.part.specs.declared.run.Ending.{Ending}
@@ -70,7 +70,7 @@ module _ (s : definition.Settings) (t : MessageGraph) (out : ℕ) (evidence : Li
         record {
           ending-is = z ∙ sym (ap (λ (u : Ended). u .ending) q);
           steps-are = sym (ap (λ (u : Ended). u .state .steps) q ∙ S .steps-are);
-          stands = subst (λ (u : Ended). Stands s t out evidence (u .state .store) words w) (sym q) (S .runs .stands);
+          stands = subst (λ (u : Ended). StandsFor s t out evidence (u .state .store) words w) (sym q) (S .runs .stands);
         }
 
     at-limit : (k : ℕ) → k ≡ 0 → loop s t k x ≡ record { ending = limit (x .lastResidual); state = x }

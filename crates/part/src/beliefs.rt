@@ -16,9 +16,9 @@ ghost use Rattle.list_laws.specs.Part.{region};
 ghost use Rattle.messages.specs.Pairs.{pairs};
 ghost use Rattle.messages.specs.DirectionsRead.{labelsRow};
 ghost use Rattle.steps.specs.StepLog.{beginsAt, endsAt};
-ghost use Rattle.zero_lookahead.specs.Part.{Given, Stands};
+ghost use Rattle.zero_lookahead.specs.Part.{Given, StandsFor};
 ghost use Rattle.part.specs.Named.{Named, Believed, SomeBeliefs};
-ghost use Rattle.part.specs.Beliefs.{Held, BeliefRows, SomeRows};
+ghost use Rattle.part.specs.Beliefs.{NodeHeld, BeliefRows, SomeRows};
 use array_utils::VariableMessage;
 use messages::directions::firsts_row;
 use messages::directions::kinds_row;
@@ -54,7 +54,7 @@ fn grade_belief(
     n: usize,
 ) -> VariableMessage
     requires { ⌜ now table ≡ logTable ⌝ }
-    requires { ⌜ Held (now firsts) (now offsets) n (length (now w)) ⌝ }
+    requires { ⌜ NodeHeld (now firsts) (now offsets) n (length (now w)) ⌝ }
     ensures { λ r. ⌜ binary (r .absent) (r .present) ≡ marginal (binary (oneᶠ ⊖ prior) prior) (pairs (region (now (w .entry)) (beginsAt (now (firsts .entry)) (now (offsets .entry)) n) (endsAt (now (firsts .entry)) (now (offsets .entry)) n - beginsAt (now (firsts .entry)) (now (offsets .entry)) n))) ⌝ }
 {
     let begin = offsets[firsts[n] as usize] as usize;
@@ -106,7 +106,7 @@ pub fn beliefs(
 ) -> usize
     requires { ⌜ now table ≡ logTable ⌝ }
     requires { ⌜ SomeBeliefs settings out (now words) (now w) (length (now numbers)) (length (now floats)) ⌝ }
-    ensures { λ r. ⌜ ((s : definition.Settings) (t : MessageGraph) (evidence : List Float) (x : Store) (ns : List Node) → Stands s t out evidence x (now (words .entry)) (now (w .entry)) → Given s settings → Named t ns (labelsRow (now (words .entry)) 0) → length (beliefsAmong s (x .msgIn) ns (t .nodes)) ≤ length (now (numbers .entry)) → 2 * length (beliefsAmong s (x .msgIn) ns (t .nodes)) ≤ length (now (floats .entry)) → Believed (beliefsAmong s (x .msgIn) ns (t .nodes)) (now (numbers .entry)) (now (floats .entry)) r (now (numbers .exit)) (now (floats .exit))) ⌝ }
+    ensures { λ r. ⌜ ((s : definition.Settings) (t : MessageGraph) (evidence : List Float) (x : Store) (ns : List Node) → StandsFor s t out evidence x (now (words .entry)) (now (w .entry)) → Given s settings → Named t ns (labelsRow (now (words .entry)) 0) → length (beliefsAmong s (x .msgIn) ns (t .nodes)) ≤ length (now (numbers .entry)) → 2 * length (beliefsAmong s (x .msgIn) ns (t .nodes)) ≤ length (now (floats .entry)) → Believed (beliefsAmong s (x .msgIn) ns (t .nodes)) (now (numbers .entry)) (now (floats .entry)) r (now (numbers .exit)) (now (floats .exit))) ⌝ }
 {
     let kinds = kinds_row(words, 0);
     let labels = labels_row(words, 0);

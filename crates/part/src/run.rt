@@ -10,7 +10,7 @@ ghost use Rattle.definition.specs.Priorities.{highestPriority};
 ghost use Rattle.definition.specs.Run.{State, loop};
 ghost use Rattle.array_utils.specs.LogTable.{logTable};
 ghost use Rattle.priorities.specs.Answer.{highestOf};
-ghost use Rattle.zero_lookahead.specs.Part.{Given, Room, SomeRoom, Stands, SomeStanding, Runs, KeptFront};
+ghost use Rattle.zero_lookahead.specs.Part.{Given, PartRoom, SomePartRoom, StandsFor, SomeStanding, Runs, KeptFront};
 ghost use Rattle.part.specs.Ending.{Ran, Ends};
 ghost use Rattle.part.specs.RunSweeps.{swept};
 ghost use Rattle.part.specs.RunQueue.{SomeQueue};
@@ -49,7 +49,7 @@ fn five_sweeps(
     requires { ⌜ now table ≡ logTable ⌝ }
     requires { ⌜ SomeStanding settings out (now evidence) (now words) (now w) ⌝ }
     ensures { λ _. ⌜ KeptFront out (now (words .entry)) (now (words .exit)) ⌝ }
-    ensures { λ _. ⌜ ((s : definition.Settings) (t : MessageGraph) (x : Store) → Stands s t out (now (evidence .entry)) x (now (words .entry)) (now (w .entry)) → Given s settings → Stands s t out (now (evidence .entry)) (swept s t 5 x) (now (words .exit)) (now (w .exit))) ⌝ }
+    ensures { λ _. ⌜ ((s : definition.Settings) (t : MessageGraph) (x : Store) → StandsFor s t out (now (evidence .entry)) x (now (words .entry)) (now (w .entry)) → Given s settings → StandsFor s t out (now (evidence .entry)) (swept s t 5 x) (now (words .exit)) (now (w .exit))) ⌝ }
 {
     let mut k: u32 = 0;
     while k < 5 {
@@ -125,9 +125,9 @@ pub fn run(
     limit: u32,
 ) -> Ended
     requires { ⌜ now table ≡ logTable ⌝ }
-    requires { ⌜ SomeRoom settings out (now evidence) (now words) (now w) ⌝ }
+    requires { ⌜ SomePartRoom settings out (now evidence) (now words) (now w) ⌝ }
     ensures { λ _. ⌜ KeptFront out (now (words .entry)) (now (words .exit)) ⌝ }
-    ensures { λ r. ⌜ ((s : definition.Settings) (t : MessageGraph) → Room s t out (now (evidence .entry)) (now (words .entry)) (now (w .entry)) → Given s settings → s .loopLimit ≡ limit → Ran s t out (now (evidence .entry)) (r .ending) (r .steps) (now (words .exit)) (now (w .exit))) ⌝ }
+    ensures { λ r. ⌜ ((s : definition.Settings) (t : MessageGraph) → PartRoom s t out (now (evidence .entry)) (now (words .entry)) (now (w .entry)) → Given s settings → s .loopLimit ≡ limit → Ran s t out (now (evidence .entry)) (r .ending) (r .steps) (now (words .exit)) (now (w .exit))) ⌝ }
 {
     open(table, w, words, out, evidence, settings);
     five_sweeps(table, w, words, out, evidence, settings);

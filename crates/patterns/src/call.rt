@@ -2,7 +2,7 @@
 ghost use mathlib.Core.Path.{_≡_};
 ghost use lib.ListN.{length};
 ghost use Rattle.definition.specs.Patterns.{patternCall};
-ghost use Rattle.checks.specs.Verdicts.{settingsOf};
+ghost use Rattle.definition.specs.Settings.{settingsOf};
 ghost use Rattle.reads.specs.Ran.{settingsIn};
 ghost use Rattle.reads.specs.Reported.{reportLentWith, reportResultWith};
 ghost use Rattle.patterns.specs.All.{Countable, CountedAll};

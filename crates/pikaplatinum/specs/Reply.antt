@@ -1,14 +1,7 @@
--- The call's outcome as numbers, and the least sizes that number 2 lets pass.
-use Prim.Native.Nat.{ℕ, _+_, _*_}
-use native.Mathlib.Omega.{arith}
+-- The call's outcome as numbers, and the sizes as the definition has them.
 use mathlib.Core.Path.{_≡_}
-use mathlib.Core.Bool.{false}
-use lib.Dec.{ltb}
-use lib.ListN.{length}
-use Rattle.definition.specs.FactorGraph.{Bale}
-use Rattle.definition.specs.Refusals.{Buffers, workNeeded, tooSmall}
+use Rattle.definition.specs.Refusals.{Buffers}
 use Rattle.definition.specs.Call.{Lent, Outcome, answered, refusedAt, Result}
-use Rattle.graph_laws.specs.Bools.{no-or, ltb-no}
 use Rattle.pikaplatinum.specs.declared.Reply.{Reply}
 use Rattle.pikaplatinum.specs.declared.Sizes.{Sizes}
 
@@ -22,12 +15,6 @@ pub record Answers (r : Reply) (l : Lent) (x : Result) : Type 0 where
   pub reply : r ≡ replyTo (x .outcome)
   pub lent : l ≡ x .lent
 
--- of a bale of so many grades, markers and pairs
-abbrev pub leastSizes : ℕ → ℕ → ℕ → Sizes
-leastSizes g m p =
-    let w = 64 * (g + m + p) + 4096 in
-    record { «work_floats» = w; «work_numbers» = w; «belief_numbers» = g; «belief_floats» = 2 * g; «ending_numbers» = 4 * g; «ending_floats» = g }
-
 abbrev pub buffersOf : Sizes → Buffers
 buffersOf r =
     record {
@@ -38,12 +25,3 @@ buffersOf r =
       endingNumbers = r .«ending_numbers»;
       endingFloats = r .«ending_floats»;
     }
-
--- number 2 lets them pass
-pub sizes-pass : (b : Bale) → tooSmall (buffersOf (leastSizes (b .grades) (length (b .markers)) (length (b .pairs)))) b ≡ false
-unfolding tooSmall workNeeded
-sizes-pass b =
-    let g = b .grades in
-    let w = 64 * (g + length (b .markers) + length (b .pairs)) + 4096 in
-    let ok : (n : ℕ) → ltb n n ≡ false = λ n. ltb-no n n (omega arith) in
-    no-or _ _ (no-or _ _ (no-or _ _ (no-or _ _ (no-or _ _ (ok w) (ok w)) (ok g)) (ok (2 * g))) (ok (4 * g))) (ok g)

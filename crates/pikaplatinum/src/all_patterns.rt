@@ -1,7 +1,7 @@
 // All read patterns of a small graph, as programs in C and Rust link it.
 ghost use mathlib.Core.Path.{_≡_};
 ghost use Rattle.definition.specs.Patterns.{patternCall};
-ghost use Rattle.checks.specs.Verdicts.{settingsOf};
+ghost use Rattle.definition.specs.Settings.{settingsOf};
 ghost use Rattle.reads.specs.Reported.{reportLentWith};
 ghost use Rattle.pikaplatinum.specs.Reported.{ReportAnswers};
 ghost use Rattle.pikaplatinum.specs.AllPatterns.{patternsReply, patternsTo};

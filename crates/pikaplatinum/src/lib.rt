@@ -1,9 +1,11 @@
 // The library as programs in C and Rust link it: include/pikaplatinum.h declares these functions. A slice is a pointer and a length there.
 ghost use mathlib.Core.Path.{_≡_};
 ghost use Rattle.definition.specs.Call.{call};
-ghost use Rattle.checks.specs.Verdicts.{settingsOf};
+ghost use Rattle.claims.specs.CallByParts.{AnsweredByParts};
+ghost use Rattle.definition.specs.Settings.{settingsOf};
+ghost use Rattle.definition.specs.Refusals.{leastBuffers};
 ghost use Rattle.zero_lookahead_belief_propagation.specs.Called.{outcomeOf, lentWith};
-ghost use Rattle.pikaplatinum.specs.Reply.{replyTo, Answers, leastSizes};
+ghost use Rattle.pikaplatinum.specs.Reply.{replyTo, Answers, buffersOf};
 use zero_lookahead_belief_propagation::Outcome;
 use zero_lookahead_belief_propagation::calibrate_all_subgraphs;
 
@@ -46,7 +48,7 @@ fn reply_of(outcome: Outcome) -> Reply
     }
 }
 
-// The call.
+// The call. Of each part of an accepted one its result says what `AnsweredByParts` does.
 #[no_mangle]
 pub extern "C" fn pikaplatinum_calibrate_all_subgraphs(
     alpha: f32,
@@ -66,6 +68,7 @@ pub extern "C" fn pikaplatinum_calibrate_all_subgraphs(
     ending_floats: &mut [f32],
 ) -> Reply
     ensures { λ r. ⌜ Answers r (lentWith (now («work_floats» .exit)) (now («work_numbers» .exit)) (now («belief_numbers» .exit)) (now («belief_floats» .exit)) (now («ending_numbers» .exit)) (now («ending_floats» .exit))) (call (settingsOf alpha beta prior regularised tolerance «loop_limit») grades (now (evidence .entry)) (now (pairs .entry)) (lentWith (now («work_floats» .entry)) (now («work_numbers» .entry)) (now («belief_numbers» .entry)) (now («belief_floats» .entry)) (now («ending_numbers» .entry)) (now («ending_floats» .entry)))) ⌝ }
+    ensures { λ r. ⌜ AnsweredByParts (settingsOf alpha beta prior regularised tolerance «loop_limit») grades (now (evidence .entry)) (now (pairs .entry)) (lentWith (now («work_floats» .entry)) (now («work_numbers» .entry)) (now («belief_numbers» .entry)) (now («belief_floats» .entry)) (now («ending_numbers» .entry)) (now («ending_floats» .entry))) (call (settingsOf alpha beta prior regularised tolerance «loop_limit») grades (now (evidence .entry)) (now (pairs .entry)) (lentWith (now («work_floats» .entry)) (now («work_numbers» .entry)) (now («belief_numbers» .entry)) (now («belief_floats» .entry)) (now («ending_numbers» .entry)) (now («ending_floats» .entry)))) ⌝ }
 {
     let outcome = calibrate_all_subgraphs(
         alpha,
@@ -101,7 +104,7 @@ pub struct Sizes {
 // For a bale of so many grades, markers and pairs.
 #[no_mangle]
 pub extern "C" fn pikaplatinum_sizes(grades: u32, markers: u32, pairs: u32) -> Sizes
-    ensures { λ r. ⌜ r ≡ leastSizes grades markers pairs ⌝ }
+    ensures { λ r. ⌜ buffersOf r ≡ leastBuffers grades markers pairs ⌝ }
 {
     let g = grades as u64;
     let work = 64 * (g + markers as u64 + pairs as u64) + 4096;

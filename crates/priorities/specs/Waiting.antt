@@ -5,9 +5,8 @@ use mathlib.Core.List.{List}
 use Prim.Native.Nat.{ℕ}
 use lib.ListN.{getD, set}
 use lib.Ieee.{Float}
-use Rattle.definition.specs.Priorities.{Highest, highestPriority}
 use Rattle.priorities.specs.Leaves.{Full}
-use Rattle.priorities.specs.Keys.{encodeKey, encoded, decoded, IsAmount, encoded-set, decoded-encoded, encoded-amounts}
+use Rattle.priorities.specs.Keys.{encodeKey, encoded, IsAmount, encoded-set, encoded-amounts}
 use Rattle.priorities.specs.Tournament.{tournament, Holds, Queue, holds-set}
 
 -- what `set` ensures, where the key is that of an amount or of none
@@ -21,7 +20,3 @@ module _ (q : List (Option Float)) (amounts : (i : ℕ) → IsAmount (getD q i n
   -- what `set` and `highest_priority` ask of the words
   pub waiting-queue : (w : ℕ) (words : List ℕ) → Full w → Holds w (encoded q) words → Queue w words
   waiting-queue w words f H = record { full = f; keys = encoded q; holds = H; amounts = encoded-amounts q amounts }
-
-  -- what `highest_priority` ensures
-  pub waiting-highest : (top : Option Highest) → top ≡ highestPriority (decoded (encoded q)) → top ≡ highestPriority q
-  waiting-highest top e = e ∙ ap highestPriority (decoded-encoded q amounts)

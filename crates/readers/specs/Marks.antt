@@ -12,7 +12,7 @@ use Rattle.definition.specs.Lists.{range, mem}
 use Rattle.definition.specs.Call.{overwrite}
 use Rattle.definition.specs.Refusals.{lowestPlace}
 use Rattle.definition.specs.Readers.{Read, readAt, Match, lowersOf, mayMatch, isFree, firstFree, matchNumbers}
-use Rattle.graph_laws.specs.Lists.{All-mono, map-cong}
+use Rattle.graph_laws.specs.Lists.{concat-map-append, All-mono, map-cong}
 use Rattle.graph_laws.specs.Ranks.{upto-below}
 use Rattle.graph_laws.specs.Reach.{mem-append}
 use Rattle.graph_laws.specs.Overwriting.{over-two}
@@ -68,8 +68,7 @@ open-free w ls marks ms u l h =
 
 pub numbers-append : (ms ns : List Match) → matchNumbers (ms ++ ns) ≡ matchNumbers ms ++ matchNumbers ns
 unfolding matchNumbers
-numbers-append [] ns = refl
-numbers-append (m ∷ ms) ns = ap (λ (l : List ℕ). m .upper ∷ m .lower ∷ l) (numbers-append ms ns)
+numbers-append = concat-map-append (λ (m : Match). m .upper ∷ m .lower ∷ [])
 
 -- one match more is written behind those before
 pub written-more : (ms : List Match) (b : List ℕ) (i j : ℕ) → 2 * length ms + 2 ≤ length b →

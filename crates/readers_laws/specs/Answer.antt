@@ -98,15 +98,15 @@ module _ (w : ℕ) (us ls : List Read) where
   turn-before n i l = sym (ap (λ k. before i (made k)) (let e : n ≡ i + (n - i) = omega arith in e) ∙ before-made i (n - i))
 
   -- the match of a turn stands in the answer
-  record Stands (n i j : ℕ) : Type 0 where
+  record MatchStands (n i j : ℕ) : Type 0 where
     rest : List Match
     is : made n ≡ (made i ++ (record { upper = i; lower = j } ∷ [])) ++ rest
 
-  stands : (i j d : ℕ) → made (suc i) ≡ made i ++ (record { upper = i; lower = j } ∷ []) → Stands (suc i + d) i j
+  stands : (i j d : ℕ) → made (suc i) ≡ made i ++ (record { upper = i; lower = j } ∷ []) → MatchStands (suc i + d) i j
   stands i j zero e = record { rest = []; is = ap made (let z : suc i + 0 ≡ suc i = omega arith in z) ∙ e ∙ sym (append-none _) }
   stands i j (suc d) e = go (turn w us ls (suc i + d)) (stands i j d e)
     where
-      go : Turn w us ls (suc i + d) → Stands (suc i + d) i j → Stands (suc i + suc d) i j
+      go : Turn w us ls (suc i + d) → MatchStands (suc i + d) i j → MatchStands (suc i + suc d) i j
       go (passes q f) r = record { rest = r .rest; is = ap made (let z : suc i + suc d ≡ suc (suc i + d) = omega arith in z) ∙ q ∙ r .is }
       go (takes k q f) r =
           let more : List Match = record { upper = suc i + d; lower = k } ∷ [] in
@@ -115,7 +115,7 @@ module _ (w : ℕ) (us ls : List Read) where
             is = ap made (let z : suc i + suc d ≡ suc (suc i + d) = omega arith in z) ∙ q ∙ ap (λ ms. ms ++ more) (r .is) ∙ append-assoc (made i ++ (record { upper = i; lower = j } ∷ [])) (r .rest) more;
           }
 
-  there : (n i j : ℕ) → Stands n i j → (k : ℕ) × (k < length (made n)) × (matchAt (made n) k .upper ≡ i)
+  there : (n i j : ℕ) → MatchStands n i j → (k : ℕ) × (k < length (made n)) × (matchAt (made n) k .upper ≡ i)
   there n i j s =
       let m : Match = record { upper = i; lower = j } in
       let e : made n ≡ made i ++ (m ∷ s .rest) = s .is ∙ append-assoc (made i) (m ∷ []) (s .rest) in (
@@ -132,7 +132,7 @@ module _ (w : ℕ) (us ls : List Read) where
       go (passes e f) = f
       go (takes k e f) =
           let q : suc i + (n - suc i) ≡ n = omega arith in
-          let r = there n i k (subst (λ x. Stands x i k) q (stands i k (n - suc i) e)) in
+          let r = there n i k (subst (λ x. MatchStands x i k) q (stands i k (n - suc i) e)) in
           absurd (h (r .0) (r .1) (r .2))
 
 pub answer-matches : AnswerMatches

@@ -11,7 +11,7 @@ use lib.Ieee.{Float}
 use lib.ListN.{length, replicate}
 use Rattle.definition.specs.Settings.{Settings}
 use Rattle.definition.specs.FactorGraph.{Bale}
-use Rattle.definition.specs.Refusals.{Buffers, tooMany, workNeeded, tooSmall, pairsOf, baleOf, lowestPlace, orRefused, verdict}
+use Rattle.definition.specs.Refusals.{tooMany, workNeeded, tooSmall, pairsOf, baleOf, lowestPlace, orRefused, verdict}
 use Rattle.definition.specs.Reads.{readEvidence, withReads, allWeak}
 use Rattle.definition.specs.Report as definition
 use Rattle.definition.specs.Report.{ampleFor, sizesVerdict}
@@ -32,12 +32,13 @@ floatsIf false w = w
 abbrev pub floatsFor : definition.ReportBuffers → ℕ → ℕ
 floatsFor f n = floatsIf (ltb (f .report) n) (f .workFloats)
 
-abbrev pub buffersFor : ℕ → ℕ → ℕ → Buffers
-buffersFor wf wn g = record { workFloats = wf; workNumbers = wn; beliefNumbers = g; beliefFloats = 2 * g; endingNumbers = 4 * g; endingFloats = g }
+-- f with so many floats of work
+abbrev pub withFloats : definition.ReportBuffers → ℕ → definition.ReportBuffers
+withFloats f w = record { workFloats = w; workNumbers = f .workNumbers; report = f .report }
 
 -- with no work the buffers are too small
 small-so : (f : definition.ReportBuffers) (b : Bale) (c : Bool) →
-    tooSmall (buffersFor (floatsIf c (f .workFloats)) (f .workNumbers) (b .grades)) b ≡ c || tooSmall (ampleFor f b) b
+    tooSmall (ampleFor (withFloats f (floatsIf c (f .workFloats))) b) b ≡ c || tooSmall (ampleFor f b) b
 unfolding tooSmall workNeeded ampleFor
 small-so f b false = refl
 small-so f b true =
@@ -53,12 +54,12 @@ module _ (g : ℕ) (ps : List ℕ) (es : List Float) (m : ℕ) (e : length es / 
 
   -- one check of the weak reads makes them all
   pub checked : (s : Settings) (f : definition.ReportBuffers) (n : ℕ) →
-      verdict s (buffersFor (floatsFor f n) (f .workNumbers) g) (baleOf g (readFloats (replicate m false)) ps)
+      verdict s (ampleFor (withFloats f (floatsFor f n)) (baleOf g es ps)) (baleOf g (readFloats (replicate m false)) ps)
       ≡ sizesVerdict f n (baleOf g es ps) (verdict s (ampleFor f (baleOf g es ps)) (allWeak (baleOf g es ps)))
   unfolding sizesVerdict baleOf
   checked s f n =
       let b = baleOf g es ps in
-      let F = buffersFor (floatsFor f n) (f .workNumbers) g in
+      let F = ampleFor (withFloats f (floatsFor f n)) b in
       ap (verdict s F) weak-reads ∙ weakly s b F
       ∙ ap (λ (c : Bool). orRefused 1 (lowestPlace (tooMany 1024 1024 8192 b ∷ [])) (orRefused 2 (lowestPlace (c ∷ [])) (later s b (length (b .markers)) none)))
       (small-so f b (ltb (f .report) n))

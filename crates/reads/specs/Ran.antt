@@ -6,6 +6,7 @@ use lib.Ieee.{Float}
 use lib.ListN.{length, replicate, length-replicate}
 use Rattle.definition.specs.Floats.{zeroᶠ}
 use Rattle.definition.specs.Settings as definition
+use Rattle.definition.specs.Settings.{settingsOf}
 use Rattle.definition.specs.FactorGraph.{Bale}
 use Rattle.definition.specs.Refusals.{Buffers, accepted, workNeeded, baleOf, verdict}
 use Rattle.definition.specs.Answer.{answer, answeredBeliefs, beliefNumbers, beliefFloats}
@@ -17,7 +18,7 @@ use Rattle.zero_lookahead_belief_propagation.specs.Called.{outcomeOf, lentWith,
 use Rattle.reads.specs.declared.Settings.{Settings}
 
 abbrev pub settingsIn : Settings → definition.Settings
-settingsIn s = record { alpha = s .alpha; beta = s .beta; prior = s .prior; regularised = s .regularised; tolerance = s .tolerance; loopLimit = s .«loop_limit» }
+settingsIn s = settingsOf (s .alpha) (s .beta) (s .prior) (s .regularised) (s .tolerance) (s .«loop_limit»)
 
 -- what is lent, and the run's own endings
 abbrev pub roomWith : ℕ → ℕ → ℕ → ℕ → Buffers

@@ -1,2 +1,3 @@
--- Laws of the replay.
+-- When bytes are the same, and what is counted over a list.
 pub mod Same
+pub mod Entries

@@ -65,7 +65,7 @@ unfolding withReads workNeeded
 work-under b qs rs n = ap (λ (m : ℕ). 64 * (b .grades + m + length (b .pairs)) + 4096) (markers-under b qs ∙ n ∙ sym (markers-under b rs))
 
 pub room-under : (f : Buffers) (b : Bale) (qs rs : List Bool) → length qs ≡ length rs → tooSmall f (withReads qs b) ≡ tooSmall f (withReads rs b)
-unfolding withReads tooSmall
+unfolding withReads tooSmall workNeeded
 room-under f b qs rs n =
     let g = b .grades in
     ap

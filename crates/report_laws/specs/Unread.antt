@@ -34,7 +34,7 @@ module _ (g : ℕ) (ps : List Pair) (ms ns : List Evidence) (e : length ms ≡ l
   weak-same = ap (λ (m : ℕ). given (map readEvidence (replicate m false))) e
 
   pub sizes-same : (f : ReportBuffers) (n : ℕ) (v : Verdict) → sizesVerdict f n (given ms) v ≡ sizesVerdict f n (given ns) v
-  unfolding sizesVerdict tooMany tooSmall ampleFor
+  unfolding sizesVerdict tooMany tooSmall workNeeded ampleFor
   sizes-same f n v =
       λ i.
       let w = work-same i in

@@ -204,10 +204,10 @@ pub taken-cut : (t : MessageGraph) (O : InOrder t) (n : ℕ) (a b : List Float) 
 taken-cut t O n a b ea eb = sym (copyNodes-cut t O a ea (neighbourNumbers t (nodeAt t n)) b eb)
 
 -- a node that changed is there
-abbrev pub Within : Changed → ℕ → Type 0
-Within all m = Unit {0}
-Within (one n) m = n + 1 < m
-Within (around n) m = n + 1 < m
+abbrev pub ChangedBelow : Changed → ℕ → Type 0
+ChangedBelow all m = Unit {0}
+ChangedBelow (one n) m = n + 1 < m
+ChangedBelow (around n) m = n + 1 < m
 
 module _ (firsts starts offsets : List ℕ) (w : List Float) (p : PartAt firsts starts offsets w) where
   abbrev G : Words firsts starts offsets

@@ -16,7 +16,7 @@ use Rattle.definition.specs.Floats.{_⊕_, zeroᶠ}
 use Rattle.definition.specs.Directions.{MessageGraph, nodeAt, directionAt}
 use Rattle.definition.specs.Run.{addPending, pushPriorities, otherOutgoing}
 use Rattle.float_laws.specs.Rounded.{clear, round-clear}
-use Rattle.graph_laws.specs.MessageCounts.{length-addTo, length-wait}
+use Rattle.graph_laws.specs.MessageCounts.{length-addPending, length-wait}
 use Rattle.priorities.specs.Keys.{encodeKey, encoded}
 use Rattle.priorities.specs.Tournament.{padded, tournament, Holds, Queue, length-padded, length-fill}
 use Rattle.priorities.specs.Waiting.{waiting-set}
@@ -144,7 +144,7 @@ module _ (leaves : ℕ) (outs : List ℕ) (f e d : ℕ) (p : List Float) (O : Ot
       let there : k < length outs = omega (arith, O .within) in
       let o-there : o < length p = O .there k (omega arith) in
       let apart : (i j : ℕ) → i < length outs → j < length outs → getD outs i 0 ≡ getD outs j 0 → i ≡ j = λ i j a b y. O .apart i j (omega arith) (omega arith) y in
-      let wl : length w ≡ length p = ap length u ∙ length-addTo r (othersTo outs f d k) p in
+      let wl : length w ≡ length p = ap length u ∙ length-addPending r (othersTo outs f d k) p in
       let x : getD w o zeroᶠ ⊕ r ≡ getD lastly o zeroᶠ =
       ap (λ (y : Float). y ⊕ r) (ap (λ (v : List Float). getD v o zeroᶠ) u ∙ pending-before outs f d (O .begins) apart r p k h there o-there k h (omega arith))
       ∙ sym (pending-at outs f d (O .begins) apart r p k h there o-there z e l (omega (arith, O .within))) in
@@ -152,7 +152,7 @@ module _ (leaves : ℕ) (outs : List ℕ) (f e d : ℕ) (p : List Float) (O : Ot
         waits = (λ q y H.
             let q′ = pushPriorities lastly (othersTo outs f d k) q in
             subst (λ (v : List (Option Float)). Holds leaves (encoded v) after)
-            (ap (λ (y : Float). set q′ o (some y)) x ∙ priorities-step outs f d (O .begins) k h there z lastly q q′ zeroᶠ (omega (arith, length-addTo r (othersTo outs f d e) p)) refl)
+            (ap (λ (y : Float). set q′ o (some y)) x ∙ priorities-step outs f d (O .begins) k h there z lastly q q′ zeroᶠ (omega (arith, length-addPending r (othersTo outs f d e) p)) refl)
             (S .waits q′ (length-wait lastly (othersTo outs f d k) q ∙ y ∙ sym wl) (K .waits q y H)));
       }
 

@@ -8,7 +8,7 @@ ghost use Rattle.array_utils.specs.LogTable.{logTable};
 ghost use Rattle.list_laws.specs.Part.{region};
 ghost use Rattle.list_laws.specs.Put.{put};
 ghost use Rattle.steps.specs.StepFloats.{Apart};
-ghost use Rattle.steps.specs.StepLog.{Words, NodeIn, total, beginsAt, endsAt, aroundCopied, PartAt, Within, logged, taken, Along};
+ghost use Rattle.steps.specs.StepLog.{Words, NodeIn, total, beginsAt, endsAt, aroundCopied, PartAt, ChangedBelow, logged, taken, Along};
 ghost use Rattle.messages.specs.Layout.{cut};
 ghost use Rattle.messages.specs.State.{partFloats};
 ghost use Rattle.steps.specs.StepChanged.{changedFrom};
@@ -77,7 +77,7 @@ pub fn row_len(offsets: &[u32]) -> usize
 
 // The messages in force of the nodes that changed, copied into the log.
 pub fn update_log(w: &mut [f32], firsts: &[u32], starts: &[u32], offsets: &[u32], changed: Changed)
-    requires { ⌜ PartAt (now firsts) (now starts) (now offsets) (now w) × Within (changedFrom changed) (length (now firsts)) ⌝ }
+    requires { ⌜ PartAt (now firsts) (now starts) (now offsets) (now w) × ChangedBelow (changedFrom changed) (length (now firsts)) ⌝ }
     ensures { λ _. ⌜ ((p : PartAt (now (firsts .entry)) (now (starts .entry)) (now (offsets .entry)) (now (w .entry))) → now (w .exit) ≡ partFloats (p .rIn) (p .rNew) (logged (p .words .graph) (changedFrom changed) (p .rIn) (p .rLog)) (p .rBuild) (p .pending) (p .rest)) ⌝ }
 {
     let len = row_len(offsets);

@@ -1,6 +1,6 @@
 // One message computed and put in force (`single_message_update`): written into the messages in force and into the new ones.
 ghost use mathlib.Core.Path.{_≡_};
-ghost use Prim.Native.Nat.{_+_, _-_, _*_, _≤_};
+ghost use Prim.Native.Nat.{_+_, _-_, _≤_};
 ghost use lib.Ieee.{nan};
 ghost use lib.ListN.{length, getD};
 ghost use Rattle.definition.specs.Vectors.{binary};

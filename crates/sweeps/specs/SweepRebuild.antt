@@ -88,9 +88,6 @@ module _ (outs offsets : List ℕ) (l f k scratch : ℕ) (w : List Float) (P : R
   roomy : scratch + m ≤ length w
   roomy = omega (arith, P .building .room, P .building .few)
 
-  pub length-rebuilt : length (rebuiltRow outs offsets l f k w) ≡ length w
-  length-rebuilt = length-puts w (placeOf outs offsets l f) piece k (λ i q. let z = place i q in omega (arith, roomy, P .behind))
-
   -- the messages as they are read from scratch
   pub scattered-is : scattered outs offsets l f scratch (put w scratch made) k ≡ puts (put w scratch made) (placeOf outs offsets l f) piece k
   scattered-is =

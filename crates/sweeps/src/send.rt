@@ -1,7 +1,7 @@
 // What a variable and a factor send in a sweep, `compute_out_messages` of the Rust: into the new row of messages, which begins at float l, from the row in
 // force, at the start.
 ghost use mathlib.Core.Path.{_≡_};
-ghost use Prim.Native.Nat.{_+_, _*_, _≤_, _<_};
+ghost use Prim.Native.Nat.{_+_, _≤_, _<_};
 ghost use lib.ListN.{length, getD};
 ghost use Rattle.definition.specs.Vectors.{binary};
 ghost use Rattle.list_laws.specs.Part.{region};

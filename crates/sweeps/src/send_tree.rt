@@ -1,6 +1,6 @@
 // What a convolution tree sends in a sweep: what it sent before, or what it makes anew of its incoming messages.
 ghost use mathlib.Core.Path.{_≡_};
-ghost use Prim.Native.Nat.{_+_, _-_, _*_, _≤_, _<_};
+ghost use Prim.Native.Nat.{_+_, _-_, _*_, _≤_};
 ghost use lib.ListN.{length, getD, replicate};
 ghost use Rattle.definition.specs.Floats.{zeroᶠ};
 ghost use Rattle.array_utils.specs.LogTable.{logTable};

@@ -14,11 +14,11 @@ use Rattle.definition.specs.Settings.{Settings}
 use Rattle.definition.specs.FactorGraph.{builtGraph, Bale, Node, isTree}
 use Rattle.definition.specs.Components.{walk, components, componentsOf, subgraph, subgraphOf}
 use Rattle.definition.specs.Directions.{edgeAt, directionTo, directionsTo, firstsIncoming, directionFrom, messageNodesFrom, messageGraph, messageGraphOf, nodeAt}
-use Rattle.definition.specs.Refusals.{outside, tooMany, workNeeded, tooSmall, badTolerance, badEvidence, unknownPair, equalPairs, lowestPlaceFrom, lowestPlace, isAmong, repeatedPairs, tooManyGrades, orRefused, verdict, Buffers}
+use Rattle.definition.specs.Refusals.{outside, tooMany, workNeeded, tooSmall, badTolerance, badEvidence, unknownPair, lowestPlaceFrom, lowestPlace, repeatedPairs, tooManyGrades, orRefused, verdict, Buffers}
 use Rattle.claims.specs.Parts.{AcceptedPart}
 use Rattle.claims.specs.ExactSums.{factorSum, gradeSum}
 
-abbrev settings : Settings
+abbrev pub settings : Settings
 settings = record { alpha = halfᶠ; beta = halfᶠ; prior = halfᶠ; regularised = false; tolerance = ratio 6 1000; loopLimit = 10000 }
 
 abbrev lent : Buffers
@@ -46,5 +46,5 @@ pub record Met : Type 0 where
   pub to-grade : map (gradeSum counted halves 1) (range 0 2) ≡ 6 * 2 ^ 295 ∷ 5 * 2 ^ 295 ∷ []
 
 pub met : Met
-unfolding patterns round div lt le eq isNan ofInt builtGraph walk components componentsOf subgraph subgraphOf edgeAt directionTo directionsTo firstsIncoming directionFrom messageNodesFrom messageGraph messageGraphOf outside tooMany workNeeded tooSmall badTolerance badEvidence unknownPair equalPairs lowestPlaceFrom lowestPlace isAmong repeatedPairs tooManyGrades orRefused verdict
+unfolding patterns round div lt le eq isNan ofInt builtGraph walk components componentsOf subgraph subgraphOf edgeAt directionTo directionsTo firstsIncoming directionFrom messageNodesFrom messageGraph messageGraphOf outside tooMany workNeeded tooSmall badTolerance badEvidence unknownPair lowestPlaceFrom lowestPlace repeatedPairs tooManyGrades orRefused verdict
 met = record { accepted = record { accepts = refl; stands = refl }; a-tree = tt; of-three = refl; to-factor = refl; to-grade = refl }

@@ -5,3 +5,4 @@ pub mod TriedSettings
 pub mod Facts
 pub mod ExactSums
 pub mod ExactSumsMet
+pub mod CallByPartsMet

@@ -1,5 +1,5 @@
 -- S-31 of the definition: what a tree sends that is built in a run from an opening is within 2 ^ -10 of the exact fractions.
-use mathlib.Core.Path.{_≡_, refl, sym, ap, _∙_, subst}
+use mathlib.Core.Path.{_≡_, refl, sym, _∙_, subst}
 use mathlib.Core.List.{List, [], _∷_, map}
 use Prim.Native.Nat.{ℕ, zero, suc, _+_, _*_, _≤_, _<_}
 use native.Mathlib.Nat.{le-trans, mul-pos, le-of-suc-le-suc}
@@ -17,9 +17,9 @@ use Rattle.definition.specs.Directions.{messageGraphOf, messageAt}
 use Rattle.definition.specs.Messages.{treeOutMessages}
 use Rattle.graph_laws.specs.Lengths.{Long, treeShape}
 use Rattle.graph_laws.specs.Sending.{Goods, tree-in-force}
-use Rattle.graph_laws.specs.Structure.{components-kept}
+use Rattle.graph_laws.specs.Structure.{part-graph-kept}
 use Rattle.graph_laws.specs.Unread.{length-built}
-use Rattle.message_bounds.specs.Bounded.{Bounded}
+use Rattle.message_bounds.specs.Bounded.{BoundedEntries}
 use Rattle.message_bounds.specs.Normalized.{entry-atMost}
 use Rattle.message_bounds.specs.Held.{entry-over}
 use Rattle.message_bounds.specs.Trees.{trees-bounded}
@@ -34,7 +34,7 @@ use Rattle.tree_error.specs.Sent.{to-factor, to-grade}
 use Rattle.tree_error.specs.Patterns.{factor-sum, grade-sum, sum-entries}
 
 -- ---- each entry is a whole number of units
-all-whole : (ms : List Message) → Goods Bounded ms → AllWhole ms
+all-whole : (ms : List Message) → Goods BoundedEntries ms → AllWhole ms
 all-whole [] g = tt
 all-whole ([] ∷ ms) g = all-whole ms (g .1)
 all-whole ((x ∷ m) ∷ ms) g = (sym (units-exact x (g .0 .0 .holds) (atMost-finite 1 x (lit≤ tt) (entry-atMost x (g .0 .0)))), all-whole (m ∷ ms) (g .0 .1, g .1))
@@ -60,11 +60,11 @@ abbrev AllSome : List Leaf → Type 0
 AllSome [] = Unit {0}
 AllSome (l ∷ ls) = (0 < l .absent) × AllSome ls
 
-first-some : (m : Message) → 0 < length m → Bounded m → 0 < val32 (entry 0 m)
+first-some : (m : Message) → 0 < length m → BoundedEntries m → 0 < val32 (entry 0 m)
 first-some [] h b = absurd (let z : ⊥ = omega arith in z)
 first-some (x ∷ m) h b = le-trans (let z : 0 < val32 c = lit≤ tt in z) (entry-over x (b .0))
 
-all-some : (ms : List Message) → Long 2 ms → Goods Bounded ms → AllSome (map leafOf ms)
+all-some : (ms : List Message) → Long 2 ms → Goods BoundedEntries ms → AllSome (map leafOf ms)
 all-some [] l g = tt
 all-some (m ∷ ms) l g = (first-some m (omega (arith, l .0)) (g .0), all-some ms (l .1) (g .1))
 
@@ -88,7 +88,7 @@ like-some F (l ∷ ls) t h s = more (l .absent * like F ls t) (l .present * like
 near-of : (x : Float) (n d n' d' : ℕ) → n' ≡ n → d' ≡ d → 0 < d → Close 1024 (val32 x) n d → Near x n' d'
 near-of x n d n' d' p q h o = subst (λ (z : ℕ). Near x z d') (sym p) (subst (λ (z : ℕ). Near x n z) (sym q) (record { divisor = h; over = o .0; under = o .1 }))
 
-module _ (f : Message) (ms : List Message) (two : 2 ≤ length ms) (few : length ms ≤ 64) (e : length f ≡ suc (length ms)) (b : Bounded f) (l : Long 2 ms) (g : Goods Bounded ms) where
+module _ (f : Message) (ms : List Message) (two : 2 ≤ length ms) (few : length ms ≤ 64) (e : length f ≡ suc (length ms)) (b : BoundedEntries f) (l : Long 2 ms) (g : Goods BoundedEntries ms) where
   abbrev ls : List Leaf
   ls = map leafOf ms
 
@@ -118,11 +118,11 @@ module _ (f : Message) (ms : List Message) (two : 2 ≤ length ms) (few : length
       }
 
 -- ---- of a run
-near-exact-of : (f : Message) (ms : List Message) → 2 ≤ length ms → length ms ≤ 128 → length f ≡ suc (length ms) → Bounded f → Long 2 ms → Goods Bounded ms → NearExactOf (f ∷ ms)
+near-exact-of : (f : Message) (ms : List Message) → 2 ≤ length ms → length ms ≤ 128 → length f ≡ suc (length ms) → BoundedEntries f → Long 2 ms → Goods BoundedEntries ms → NearExactOf (f ∷ ms)
 unfolding treeOutMessages
 near-exact-of f ms two _ e b l g few = near-exact f ms two few e b l g
 
 pub built-near-exact : BuiltNearExact
 built-near-exact s f b n p h fits es x v t =
-    tree-in-force Bounded s (messageGraphOf b p) (keeps s (settings-in-range s f b (h .accepts) (fits .settings)))
-    (components-kept Bounded s f b n p h (all-of _ (b .markers) (evidence-bounded s f b (h .accepts) (fits .evidence)))) NearExactOf near-exact-of es x v t
+    tree-in-force BoundedEntries s (messageGraphOf b p) (keeps s (settings-in-range s f b (h .accepts) (fits .settings)))
+    (part-graph-kept BoundedEntries s f b n p h (all-of _ (b .markers) (evidence-bounded s f b (h .accepts) (fits .evidence)))) NearExactOf near-exact-of es x v t

@@ -19,29 +19,29 @@ use Rattle.tree_error.specs.Terms.{Offs, offs-at}
 use Rattle.tree_error.specs.Shares.{offs-total}
 
 -- x and y differ by at most a p-th of r
-abbrev pub Within : ℕ → ℕ → ℕ → ℕ → Type 0
-Within p x y r = (p * x ≤ p * y + r) × (p * y ≤ p * x + r)
+abbrev pub WithinShare : ℕ → ℕ → ℕ → ℕ → Type 0
+WithinShare p x y r = (p * x ≤ p * y + r) × (p * y ≤ p * x + r)
 
 -- X units against the fraction N / D: within one part in p
 abbrev pub Close : ℕ → ℕ → ℕ → ℕ → Type 0
-Close p X N D = Within p (X * D) (N * 2 ^ 149) (D * 2 ^ 149)
+Close p X N D = WithinShare p (X * D) (N * 2 ^ 149) (D * 2 ^ 149)
 
 -- v d against e u, from v against e and d against u
-cross : (v e d u : ℕ) → e ≤ d → Within 5000 v e u → Within 4500 d u u → Within 2048 (v * d) (e * u) (d * u)
+cross : (v e d u : ℕ) → e ≤ d → WithinShare 5000 v e u → WithinShare 4500 d u u → WithinShare 2048 (v * d) (e * u) (d * u)
 cross v e d u l h g =
     let ud = mul-le-mul-right u l in
     omega (arith, mul-le-mul-right d (h .0), mul-le-mul-right d (h .1), mul-le-mul-left e (g .0), mul-le-mul-left e (g .1))
 
 -- the same of v off e and g off d, where g is near u
 at-scale : {k m a b v e g d u : ℕ} → Off k a v e → Off k b g d → Off m 0 g u → k ≤ 3300 → m ≤ 300 → a * 2 ^ 20 ≤ u → b * 2 ^ 20 ≤ u → e ≤ d
-    → Within 2048 (v * d) (e * u) (d * u)
+    → WithinShare 2048 (v * d) (e * u) (d * u)
 at-scale {k} {m} {a} {b} {v} {e} {g} {d} {u} o q r h n x y l =
-    let f : Within 4500 d u u = omega (arith, mul-le-mul-left d h, mul-le-mul-left u n) in
+    let f : WithinShare 4500 d u u = omega (arith, mul-le-mul-left d h, mul-le-mul-left u n) in
     cross v e d u l (omega (arith, mul-le-mul-left e h)) f
 
 -- the scale taken off: X and its exact value E, the total G and its exact value D
 unscaled : (k m n A P Q X E G D U : ℕ) → 0 < P → 0 < Q → k ≤ 3300 → m ≤ 300 → suc n * A * 2 ^ 20 ≤ U → E ≤ D
-    → Off k (A * Q) (X * Q) (E * P) → Off k (n * A * Q) (G * Q) (D * P) → Off m 0 G U → Within 2048 (X * D) (E * U) (D * U)
+    → Off k (A * Q) (X * Q) (E * P) → Off k (n * A * Q) (G * Q) (D * P) → Off m 0 G U → WithinShare 2048 (X * D) (E * U) (D * U)
 unscaled k m n A P Q X E G D U p q h f w l o s t =
     let t' : Off m 0 (G * Q) (U * Q) = omega (arith, off-scale Q t) in
     let w' = mul-le-mul-right Q w in
@@ -63,7 +63,7 @@ module _ (k A P Q : ℕ) (c : ℕ → ℕ) (l : List Float) (p : 0 < P) (q : 0 <
       (sum-has (length l) c i h) (offs-at k A P Q c l i o h) (offs-total k A P Q c l o) t
 
 -- ---- raised to c
-raised : (X Y C N D U : ℕ) → X ≤ Y → Y ≤ X + C → 2048 * C ≤ U → Within 2048 (X * D) (N * U) (D * U) → Within 1024 (Y * D) (N * U) (D * U)
+raised : (X Y C N D U : ℕ) → X ≤ Y → Y ≤ X + C → 2048 * C ≤ U → WithinShare 2048 (X * D) (N * U) (D * U) → WithinShare 1024 (Y * D) (N * U) (D * U)
 raised X Y C N D U h g r o = omega (arith, mul-le-mul-right D h, mul-le-mul-right D g, mul-le-mul-right D r)
 
 lifts : (x : Float) → AtMost 1 x → (val32 x ≤ val32 (avoidUnderflow x)) × (val32 (avoidUnderflow x) ≤ val32 x + val32 c)

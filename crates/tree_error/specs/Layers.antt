@@ -15,7 +15,7 @@ use Rattle.float_laws.specs.Error.{val32, exactSum}
 use Rattle.float_laws.specs.Totals.{AllAtMost, atMost-finite, sum-fits, val-pos}
 use Rattle.definition.specs.Vectors.{Message, binary, normalize, entry, sumOf}
 use Rattle.definition.specs.ConvolutionTree.{convolve}
-use Rattle.message_bounds.specs.Bounded.{Bounded}
+use Rattle.message_bounds.specs.Bounded.{BoundedEntries}
 use Rattle.message_bounds.specs.Normalized.{normalize-is}
 use Rattle.message_bounds.specs.Held.{HeldMessage, bounded-atMost, held-positive, held-shares}
 use Rattle.message_bounds.specs.Joint.{Joint, joined, real-leaf, padding}
@@ -84,7 +84,7 @@ leaf-weight (x ∷ y ∷ []) l (suc (suc i)) = plain (val32 x) (val32 y)
     plain : (a b : ℕ) → 0 ≡ a * 0 + b * 0
     plain a b = omega arith
 
-pub near-leaf : (m : Message) → length m ≡ 2 → Bounded m → JointNear 0 (leafOf m ∷ []) (normalize m)
+pub near-leaf : (m : Message) → length m ≡ 2 → BoundedEntries m → JointNear 0 (leafOf m ∷ []) (normalize m)
 near-leaf m l h =
     let M : HeldMessage 1 m = record { few = lit≤ tt; long = l; bounded = h } in
     record {

@@ -21,7 +21,7 @@ use Rattle.claims.specs.ExactSums.{without}
 use Rattle.graph_laws.specs.Convolution.{logLength-least}
 use Rattle.graph_laws.specs.Lengths.{Long, length-normalize}
 use Rattle.graph_laws.specs.Sending.{Goods}
-use Rattle.message_bounds.specs.Bounded.{Bounded}
+use Rattle.message_bounds.specs.Bounded.{BoundedEntries}
 use Rattle.message_bounds.specs.Held.{HeldMessage}
 use Rattle.message_bounds.specs.Trees.{bound-some, short, root-bound}
 use Rattle.tree_error.specs.Weights.{Leaf, weight, like, total, sum-weights, sumBelow}
@@ -91,7 +91,7 @@ message-at : (ls : List (List Float)) (i n : ℕ) → i < n → messageAt i (map
 unfolding avoidUnderflowAll
 message-at ls i n h = List·getD-map gradeMessage (take n ls) i [] ∙ ap gradeMessage (getD-take n ls i [] h)
 
-module _ (f : Message) (ms : List Message) (few : length ms ≤ 64) (e : length f ≡ suc (length ms)) (b : Bounded f) (l : Long 2 ms) (g : Goods Bounded ms) where
+module _ (f : Message) (ms : List Message) (few : length ms ≤ 64) (e : length f ≡ suc (length ms)) (b : BoundedEntries f) (l : Long 2 ms) (g : Goods BoundedEntries ms) where
   abbrev leaves : List Leaf
   leaves = map leafOf ms
 

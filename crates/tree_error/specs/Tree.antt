@@ -13,7 +13,7 @@ use Rattle.graph_laws.specs.Convolution.{logLength-least}
 use Rattle.graph_laws.specs.Lengths.{Long, length-firstLayer}
 use Rattle.graph_laws.specs.Sending.{Goods}
 use Rattle.graph_laws.specs.Unread.{length-likelihoods}
-use Rattle.message_bounds.specs.Bounded.{Bounded}
+use Rattle.message_bounds.specs.Bounded.{BoundedEntries}
 use Rattle.message_bounds.specs.TreeLayers.{Layered, Downs, all, first, all-first, spare, root-up, leaves-down}
 use Rattle.tree_error.specs.Weights.{Leaf, like, like-middle}
 use Rattle.tree_error.specs.Layers.{JointNear, near-joined, leafOf, near-leaf, near-padding}
@@ -59,7 +59,7 @@ module _ (F : ℕ → ℕ) where
       rw append-assoc at (leaf-at z (before ++ (leafOf m ∷ [])) ms ls i (L .1) (le-of-suc-le-suc h) (le-of-suc-le-suc g))
 
   -- ---- a tree of at most 64 leaves, whose root has the likelihoods r
-  module _ (ms : List Message) (few : length ms ≤ 64) (l : Long 2 ms) (g : Goods Bounded ms) (r : List Float) where
+  module _ (ms : List Message) (few : length ms ≤ 64) (l : Long 2 ms) (g : Goods BoundedEntries ms) (r : List Float) where
     abbrev p : ℕ
     p = logLength (length ms)
 

@@ -25,7 +25,7 @@ use Rattle.reads.specs.Put.{readFloats, markers-of-reads, length-reads}
 use Rattle.reads.specs.Ran.{roomWith, Ran}
 use Rattle.reads.specs.Room.{read-bale}
 use Rattle.trials.specs.declared.trial.Trial.{Trial}
-use Rattle.trials.specs.Tally.{Tallied, judgedTo, Stands, stands-tallied, BaleTallied, bale-tallied}
+use Rattle.trials.specs.Tally.{Tallied, judgedTo, BeliefsStand, stands-tallied, BaleTallied, bale-tallied}
 
 -- the graph of m markers, each read weakly, which stands for every graph of as many
 abbrev pub weakBale : ℕ → ℕ → List ℕ → Bale
@@ -104,7 +104,7 @@ module _
       sizes : AnswerSizes s (baleOf g (readFloats (madeUp t (weakBale g m ps) x .reads)) ps)
       sizes = answer-sizes s (roomWith (length wf) (length wn) 1024 2048) q (T .accepts (d .reads) read-long)
 
-      stands : Stands (answeredBeliefs (answer s (baleOf g (readFloats (madeUp t (weakBale g m ps) x .reads)) ps))) (madeUp t (weakBale g m ps) x .presences) g count bn₀ bn bf₀ bf p₀ p
+      stands : BeliefsStand (answeredBeliefs (answer s (baleOf g (readFloats (madeUp t (weakBale g m ps) x .reads)) ps))) (madeUp t (weakBale g m ps) x .presences) g count bn₀ bn bf₀ bf p₀ p
       unfolding baleOf
       stands =
           record {

@@ -9,14 +9,13 @@ use lib.Ieee.{Float}
 use lib.ListN.{length, length-append, length-map}
 use Rattle.definition.specs.Floats.{ratio}
 use Rattle.definition.specs.Lists.{range, howMany, concat}
-use Rattle.definition.specs.Settings.{Settings}
+use Rattle.definition.specs.Settings.{Settings, settingsOf}
 use Rattle.definition.specs.Refusals.{baleOf}
 use Rattle.definition.specs.Trials.{TrialSetting, MadeUp, madeUp, history, Judgement, judgements, agrees, differs}
 use Rattle.claims.specs.TriedSettings.{stateAfterBales}
 use Rattle.graph_laws.specs.Lists.{length-count}
 use Rattle.report_laws.specs.Counts.{count-append, count-le, concat-snoc}
 use Rattle.trial_laws.specs.History.{history-length, history-parts}
-use Rattle.checks.specs.Verdicts.{settingsOf}
 use Rattle.trials.specs.declared.trial.Trial.{Trial}
 use Rattle.trials.specs.Bale.{weakBale, TriedBale}
 

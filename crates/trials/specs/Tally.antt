@@ -61,7 +61,7 @@ or-differs false x = Bool·not-not (aboveHalf x)
 -- ---- a made-up bale
 
 -- the beliefs xs, of grades below g and none of them twice, stand at the front of the slices, and the draws ps of the g grades at the front of theirs
-pub record Stands (xs : List Belief) (ps : List Bool) (g n : ℕ) (ns₀ ns : List ℕ) (fs₀ fs : List Float) (ds₀ ds : List Bool) : Type 0 where
+pub record BeliefsStand (xs : List Belief) (ps : List Bool) (g n : ℕ) (ns₀ ns : List ℕ) (fs₀ fs : List Float) (ds₀ ds : List Bool) : Type 0 where
   pub once : NoDup eqb (beliefNumbers xs)
   pub below : All (λ k. k < g) (beliefNumbers xs)
   pub two : All TwoFloats xs
@@ -105,7 +105,7 @@ judged-beliefs ds (x ∷ xs) ns fs t = go (x .value) (t .0) (judged-beliefs ds x
         ∙ h)
     go (a ∷ p ∷ q ∷ v) e h = absurd (let z : ⊥ = omega arith in z)
 
-module _ {xs : List Belief} {ps : List Bool} {g n : ℕ} {ns₀ ns : List ℕ} {fs₀ fs : List Float} {ds₀ ds : List Bool} (S : Stands xs ps g n ns₀ ns fs₀ fs ds₀ ds) where
+module _ {xs : List Belief} {ps : List Bool} {g n : ℕ} {ns₀ ns : List ℕ} {fs₀ fs : List Float} {ds₀ ds : List Bool} (S : BeliefsStand xs ps g n ns₀ ns fs₀ fs ds₀ ds) where
   -- by a test that a grade without belief does not pass
   stands-counted :
       (is : Bool → Option Float → Bool) → ((d : Bool) → is d none ≡ false) →
@@ -155,7 +155,7 @@ pub record BaleTallied (s : Settings) (b : Bale) (d : MadeUp) (n : ℕ) (ns : Li
 -- r is the bale that was run: b, with the reads of d
 pub bale-tallied :
     (s : Settings) (b : Bale) (d : MadeUp) (r : Bale) {n : ℕ} {ns₀ ns : List ℕ} {fs₀ fs : List Float} {ds₀ ds : List Bool} →
-    withReads (d .reads) b ≡ r → Stands (answeredBeliefs (answer s r)) (d .presences) (b .grades) n ns₀ ns fs₀ fs ds₀ ds → BaleTallied s b d n ns fs ds
+    withReads (d .reads) b ≡ r → BeliefsStand (answeredBeliefs (answer s r)) (d .presences) (b .grades) n ns₀ ns fs₀ fs ds₀ ds → BaleTallied s b d n ns fs ds
 unfolding judgements
 bale-tallied s b d r {n} {ns = ns} {fs = fs} {ds = ds} e S =
     record { agreed = each agreesWith none-agrees; differed = each (λ x o. agreesWith (not x) o) (λ x. none-agrees (not x)) }

@@ -1,6 +1,5 @@
 // The call: checked, and its settings tried if it is accepted.
 ghost use mathlib.Core.Path.{_≡_};
-ghost use Prim.Native.Nat.{_/_};
 ghost use Rattle.definition.specs.Trials.{trialsOf, trialCall};
 ghost use Rattle.reads.specs.Reported.{reportLentWith, reportResultWith};
 ghost use Rattle.trials.specs.Called.{Triable, Tried};

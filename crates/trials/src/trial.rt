@@ -1,6 +1,6 @@
 // The bales of a setting, made up, run and tallied one after the other, and the settings one after the other.
 ghost use mathlib.Core.Path.{_≡_};
-ghost use Prim.Native.Nat.{_+_, _*_, _/_, _^_, _≤_, _<_};
+ghost use Prim.Native.Nat.{_+_, _/_, _^_, _≤_, _<_};
 ghost use lib.ListN.{length};
 ghost use Rattle.definition.specs.Call.{overwrite};
 ghost use Rattle.definition.specs.Trials.{trialCounts};

@@ -26,7 +26,7 @@ use Rattle.messages.specs.LayoutCut.{cut-long}
 use Rattle.messages.specs.State.{storeOf, partFloats, FloatRows}
 use Rattle.opening.specs.Begin.{begin-long, begin-amounts}
 use Rattle.steps.specs.StepFloats.{pending-put}
-use Rattle.zero_lookahead.specs.Part.{rowsEnd, flagsRow, leavesIn, queueAt, queueRow, PartWords, Stands, Runs, KeptFront}
+use Rattle.zero_lookahead.specs.Part.{rowsEnd, flagsRow, leavesIn, queueAt, queueRow, PartWords, StandsFor, Runs, KeptFront}
 use Rattle.zero_lookahead.specs.PartKept.{region-same, part-kept, nodes-kept, edges-kept, leaves-kept, queue-part, queue-front, queue-flags, queue-is}
 use Rattle.zero_lookahead.specs.PartOffsets.{width-is}
 use Rattle.zero_lookahead.specs.Open.{pendingCleared}
@@ -41,7 +41,7 @@ zero-clear [] d = tt
 zero-clear (e ∷ ds) zero = tt
 zero-clear (e ∷ ds) (suc d) = zero-clear ds d
 
-module _ {s : Settings} {t : MessageGraph} {out : ℕ} {evidence : List Float} {x : Store} {words : List ℕ} {w : List Float} (S : Stands s t out evidence x words w) where
+module _ {s : Settings} {t : MessageGraph} {out : ℕ} {evidence : List Float} {x : Store} {words : List ℕ} {w : List Float} (S : StandsFor s t out evidence x words w) where
   abbrev P : PartWords s t out evidence words
   P = S .part
 
@@ -56,7 +56,7 @@ module _ {s : Settings} {t : MessageGraph} {out : ℕ} {evidence : List Float} {
         ∙ ap (region words′ (rowsEnd words out)) (nodes-kept s t out evidence words P words′ long rows)
         ∙ region-same 0 words words′ (queueAt words out) long same (rowsEnd words out) (getD words 0 0) (omega arith) (omega (arith, P .room))
 
-    stands-kept : Stands s t out evidence x words′ w
+    stands-kept : StandsFor s t out evidence x words′ w
     stands-kept =
         record {
           part = part-kept s t out evidence words P words′ long rows;
@@ -72,7 +72,7 @@ module _ {s : Settings} {t : MessageGraph} {out : ℕ} {evidence : List Float} {
         }
 
   -- while the leaves are written
-  pub written-stands : (words′ : List ℕ) (at d : ℕ) (f : ℕ → ℕ) → at ≡ queueAt words out + leavesIn words → words′ ≡ write words at d f → Stands s t out evidence x words′ w
+  pub written-stands : (words′ : List ℕ) (at d : ℕ) (f : ℕ → ℕ) → at ≡ queueAt words out + leavesIn words → words′ ≡ write words at d f → StandsFor s t out evidence x words′ w
   written-stands words′ at d f e g =
       stands-kept words′ (ap length g ∙ length-write words at d f) (λ i h. ap (λ (l : List ℕ). getD l i 0) g ∙ write-below words at d i f 0 (omega arith))
 
@@ -94,7 +94,7 @@ module _ {s : Settings} {t : MessageGraph} {out : ℕ} {evidence : List Float} {
       let F = S .floats in
       record { in-long = F .in-long; new-long = F .new-long; log-long = F .log-long; build-long = F .build-long; pending-long = length-replicate (length (t .directions)) zeroᶠ; room = F .room; zeros = F .zeros }
 
-  pub none-pending : (w′ : List Float) → w′ ≡ pendingCleared words out 0 w → Stands s t out evidence x words w′
+  pub none-pending : (w′ : List Float) → w′ ≡ pendingCleared words out 0 w → StandsFor s t out evidence x words w′
   none-pending w′ e =
       record {
         part = P;

@@ -20,7 +20,7 @@ use Rattle.opening.specs.OpenRows.{MessageRow}
 use Rattle.opening.specs.Begin.{initialKey, begin-long, begin-at, message-is, message-room}
 use Rattle.steps.specs.StepFloats.{in-read, log-read, floats-long}
 use Rattle.zero_lookahead.specs.declared.settings.Settings.{Settings}
-use Rattle.zero_lookahead.specs.Part.{Given, Stands}
+use Rattle.zero_lookahead.specs.Part.{Given, StandsFor}
 use Rattle.zero_lookahead.specs.PartOffsets.{width-is, offset-word, message-row}
 
 -- a part that stands for a store, whatever the evidence
@@ -30,13 +30,13 @@ pub record SomeStandingAny (g : Settings) (out : ℕ) (words : List ℕ) (w : Li
   pub graph : MessageGraph
   pub evidence : List Float
   pub store : Store
-  pub stands : Stands settings graph out evidence store words w
+  pub stands : StandsFor settings graph out evidence store words w
 
 -- the key of direction d, and 0 behind the last one
 abbrev pub leafKey : definition.Settings → MessageGraph → Store → ℕ → ℕ
 leafKey s t x d = getD (encoded (beginLoop s t x .priorities)) d 0
 
-module _ {s : definition.Settings} {t : MessageGraph} {out : ℕ} {evidence : List Float} {x : Store} {words : List ℕ} {w : List Float} (S : Stands s t out evidence x words w) where
+module _ {s : definition.Settings} {t : MessageGraph} {out : ℕ} {evidence : List Float} {x : Store} {words : List ℕ} {w : List Float} (S : StandsFor s t out evidence x words w) where
   pub key-behind : (d : ℕ) → 2 * getD words 1 0 ≤ d → 0 ≡ leafKey s t x d
   key-behind d h = sym (List·getD-eq-default (encoded (beginLoop s t x .priorities)) 0 (let z : length (encoded (beginLoop s t x .priorities)) ≤ d = omega (arith, begin-long s t x, S .part .edges) in z))
 

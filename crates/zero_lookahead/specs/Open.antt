@@ -19,7 +19,7 @@ use Rattle.messages.specs.State.{scratchFloats, partFloats, FloatRows, storeOf}
 use Rattle.opening.specs.OpenRows.{FactorSettings}
 use Rattle.opening.specs.Open.{OpenFloats, Opened, opening-store}
 use Rattle.zero_lookahead.specs.declared.settings.Settings.{Settings}
-use Rattle.zero_lookahead.specs.Part.{Given, rowsEnd, PartWords, Room, Stands}
+use Rattle.zero_lookahead.specs.Part.{Given, rowsEnd, PartWords, PartRoom, StandsFor}
 use Rattle.zero_lookahead.specs.PartKept.{flags-part, flags-are}
 use Rattle.zero_lookahead.specs.PartOffsets.{widthIn, width-is}
 
@@ -144,7 +144,7 @@ factor-settings e =
       regularised-is = ap (λ (s : definition.Settings). s .regularised) e;
     }
 
-module _ {s : definition.Settings} {t : MessageGraph} {out : ℕ} {evidence : List Float} {words : List ℕ} {w : List Float} (R : Room s t out evidence words w) where
+module _ {s : definition.Settings} {t : MessageGraph} {out : ℕ} {evidence : List Float} {words : List ℕ} {w : List Float} (R : PartRoom s t out evidence words w) where
   pub cleared : (w′ : List Float) → w′ ≡ pendingCleared words out scratchFloats w → ClearRows t w′
   cleared w′ e =
       let P = R .part in
@@ -155,13 +155,13 @@ module _ {s : definition.Settings} {t : MessageGraph} {out : ℕ} {evidence : Li
   open-rows k f a o p l C = record { part = rw (k, f, a, o, p, l) (R .part .rows); floats = C .floats; is = C .is }
 
   -- the flags cleared too
-  pub opening-stands : (w′ : List Float) (words′ : List ℕ) → OpenedPart s t w′ → words′ ≡ put words (rowsEnd words out) (replicate (getD words 0 0) 0) → Stands s t out evidence (opening s t) words′ w′
+  pub opening-stands : (w′ : List Float) (words′ : List ℕ) → OpenedPart s t w′ → words′ ≡ put words (rowsEnd words out) (replicate (getD words 0 0) 0) → StandsFor s t out evidence (opening s t) words′ w′
   opening-stands w′ words′ O e =
       let fs : List ℕ = replicate (getD words 0 0) 0 in
       let n : length fs ≡ getD words 0 0 = length-replicate (getD words 0 0) 0 in
       let C = O .clear in
       let o = O .opened in
-      subst (λ (v : List ℕ). Stands s t out evidence (opening s t) v w′) (sym e)
+      subst (λ (v : List ℕ). StandsFor s t out evidence (opening s t) v w′) (sym e)
       (record {
         part = flags-part s t out evidence words (R .part) fs n;
         rIn = o .row;

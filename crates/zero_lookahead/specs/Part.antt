@@ -12,6 +12,7 @@ use Rattle.definition.specs.Settings as definition
 use Rattle.definition.specs.Directions.{MessageGraph}
 use Rattle.definition.specs.Sweeps.{Store}
 use Rattle.definition.specs.Run.{State}
+use Rattle.definition.specs.Settings.{settingsOf}
 use Rattle.float_laws.specs.Rounded.{clear}
 use Rattle.list_laws.specs.Part.{region}
 use Rattle.priorities.specs.Leaves.{leavesFor}
@@ -20,12 +21,12 @@ use Rattle.priorities.specs.Tournament.{Holds}
 use Rattle.messages.specs.Layout.{width}
 use Rattle.messages.specs.DirectionsRecord.{recordEnd}
 use Rattle.messages.specs.DirectionsRead.{kindsRow, labelsRow, firstsRow, startsRow, outsRow, offsetsRow}
-use Rattle.messages.specs.State.{settingsWith, PartRows, scratchFloats, partFloats, FloatRows, storeOf}
+use Rattle.messages.specs.State.{PartRows, scratchFloats, partFloats, FloatRows, storeOf}
 use Rattle.zero_lookahead.specs.declared.settings.Settings.{Settings}
 
 -- the definition's settings are those that are given, whatever the limit
 abbrev pub Given : definition.Settings → Settings → Type 0
-Given s g = s ≡ settingsWith (g .alpha) (g .beta) (g .prior) (g .regularised) (g .tolerance) (s .loopLimit)
+Given s g = s ≡ settingsOf (g .alpha) (g .beta) (g .prior) (g .regularised) (g .tolerance) (s .loopLimit)
 
 -- ---- the words: behind the rows the flags, behind these the queue
 
@@ -58,19 +59,19 @@ abbrev pub floatsNeeded : MessageGraph → ℕ
 floatsNeeded t = 4 * width (t .directions) + length (t .directions) + scratchFloats
 
 -- a part and its floats, whatever stands in them
-pub record Room (s : definition.Settings) (t : MessageGraph) (out : ℕ) (evidence : List Float) (words : List ℕ) (w : List Float) : Type 0 where
+pub record PartRoom (s : definition.Settings) (t : MessageGraph) (out : ℕ) (evidence : List Float) (words : List ℕ) (w : List Float) : Type 0 where
   pub part : PartWords s t out evidence words
   pub floats : floatsNeeded t ≤ length w
 
-pub record SomeRoom (g : Settings) (out : ℕ) (evidence : List Float) (words : List ℕ) (w : List Float) : Type 0 where
+pub record SomePartRoom (g : Settings) (out : ℕ) (evidence : List Float) (words : List ℕ) (w : List Float) : Type 0 where
   pub settings : definition.Settings
   pub given : Given settings g
   pub graph : MessageGraph
-  pub room : Room settings graph out evidence words w
+  pub room : PartRoom settings graph out evidence words w
 
 -- ---- the words and floats stand for a store: the message sets and the trees' last builds
 
-pub record Stands (s : definition.Settings) (t : MessageGraph) (out : ℕ) (evidence : List Float) (x : Store) (words : List ℕ) (w : List Float) : Type 0 where
+pub record StandsFor (s : definition.Settings) (t : MessageGraph) (out : ℕ) (evidence : List Float) (x : Store) (words : List ℕ) (w : List Float) : Type 0 where
   pub part : PartWords s t out evidence words
   pub rIn : List Float
   pub rNew : List Float
@@ -87,12 +88,12 @@ pub record SomeStanding (g : Settings) (out : ℕ) (evidence : List Float) (word
   pub given : Given settings g
   pub graph : MessageGraph
   pub store : Store
-  pub stands : Stands settings graph out evidence store words w
+  pub stands : StandsFor settings graph out evidence store words w
 
 -- ---- and for a state of the loop: also the pending residuals and the queue
 
 pub record Runs (s : definition.Settings) (t : MessageGraph) (out : ℕ) (evidence : List Float) (x : State) (words : List ℕ) (w : List Float) : Type 0 where
-  pub stands : Stands s t out evidence (x .store) words w
+  pub stands : StandsFor s t out evidence (x .store) words w
   pub pending-is : stands .pending ≡ x .pending
   pub clear-signs : (d : ℕ) → d < length (x .pending) → T (clear (getD (x .pending) d zeroᶠ))
   pub queued : length (x .priorities) ≡ length (t .directions)

@@ -15,7 +15,7 @@ use Rattle.definition.specs.Sweeps.{Store}
 use Rattle.definition.specs.Priorities.{Highest}
 use Rattle.definition.specs.Run.{State, updateSingle, updateTree, updateMessage, addPending, pushPriorities, otherOutgoing, scheduledStep}
 use Rattle.float_laws.specs.Rounded.{clear}
-use Rattle.graph_laws.specs.MessageCounts.{length-addTo, length-wait}
+use Rattle.graph_laws.specs.MessageCounts.{length-addPending, length-wait}
 use Rattle.list_laws.specs.Part.{region, length-region}
 use Rattle.list_laws.specs.Put.{put}
 use Rattle.messages.specs.Layout.{width}
@@ -28,7 +28,7 @@ use Rattle.priorities.specs.Waiting.{waiting-queue}
 use Rattle.steps.specs.StepFloats.{floats-long, pending-put, pending-read}
 use Rattle.steps.specs.StepLog.{total-is}
 use Rattle.steps.specs.StepPending.{Waiting, ResidualAdded}
-use Rattle.zero_lookahead.specs.Part.{flagsRow, leavesIn, queueAt, queueRow, PartWords, Stands, Runs, KeptFront}
+use Rattle.zero_lookahead.specs.Part.{flagsRow, leavesIn, queueAt, queueRow, PartWords, StandsFor, Runs, KeptFront}
 use Rattle.zero_lookahead.specs.PartKept.{queue-part, queue-front, queue-flags, queue-is}
 use Rattle.zero_lookahead.specs.StepAdded.{pendingAt, pendingRow, AddingAlong, AddedAlong}
 use Rattle.zero_lookahead.specs.StepAmounts.{pushed-amounts, none-amounts, signs-all}
@@ -42,9 +42,6 @@ module _ (s : definition.Settings) (t : MessageGraph) (b : Highest) (x : State) 
 
   -- the message does not read the log
   module _ (c : Changed) (changes : changedOf t c ≡ x .changed) where
-    abbrev logged : Store
-    logged = loggedStore t (changedOf t c) (x .store)
-
     step-store : updateMessage s t d (loggedStore t (changedOf t c) (x .store) .msgInLog) (loggedStore t (changedOf t c) (x .store)) .store ≡ scheduledStep s t b x .store
     unfolding scheduledStep updateMessage updateTree updateSingle
     step-store =
@@ -70,7 +67,7 @@ module _ (s : definition.Settings) (t : MessageGraph) (b : Highest) (x : State) 
         ap (λ (i : ℕ). pushPriorities (scheduledStep s t b x .pending) (otherOutgoing (directionAt t i .startInEnd) (nodeAt t (directionAt t i .end) .outgoing)) (set (x .priorities) i none)) (sym at)
 
 -- ---- what is pending, read where it stands
-module _ (s : definition.Settings) (t : MessageGraph) (out : ℕ) (evidence : List Float) (x : Store) (words : List ℕ) (w : List Float) (S : Stands s t out evidence x words w) where
+module _ (s : definition.Settings) (t : MessageGraph) (out : ℕ) (evidence : List Float) (x : Store) (words : List ℕ) (w : List Float) (S : StandsFor s t out evidence x words w) where
   at-is : pendingAt words out ≡ 4 * width (t .directions)
   at-is = ap (λ (n : ℕ). 4 * n) (total-is _ _ (offsetsRow words 0 out) (stands-part s t out evidence x words w S .words))
 
@@ -158,9 +155,9 @@ module _ (s : definition.Settings) (t : MessageGraph) (out : ℕ) (evidence : Li
       p-is = added .pending-is ∙ ap (λ (l : List Float). addPending r others (set l d zeroᶠ)) pending-are
 
       p-long : length p ≡ length (t .directions)
-      p-long = ap length p-is ∙ length-addTo r others (set (x .pending) d zeroᶠ) ∙ length-set (x .pending) d zeroᶠ ∙ pending-long
+      p-long = ap length p-is ∙ length-addPending r others (set (x .pending) d zeroᶠ) ∙ length-set (x .pending) d zeroᶠ ∙ pending-long
 
-      abbrev stands₃ : (v : Store) → v ≡ y → Stands s t out evidence v words₃ w₃
+      abbrev stands₃ : (v : Store) → v ≡ y → StandsFor s t out evidence v words₃ w₃
       stands₃ v f =
           let S = W .stands in
           let F = S .floats in

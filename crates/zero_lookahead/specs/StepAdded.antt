@@ -12,7 +12,7 @@ use Rattle.definition.specs.Floats.{zeroᶠ}
 use Rattle.definition.specs.Directions.{MessageGraph}
 use Rattle.definition.specs.Run.{addPending}
 use Rattle.float_laws.specs.Rounded.{clear}
-use Rattle.graph_laws.specs.MessageCounts.{length-addTo}
+use Rattle.graph_laws.specs.MessageCounts.{length-addPending}
 use Rattle.list_laws.specs.Part.{region, length-region}
 use Rattle.list_laws.specs.Put.{put, put-part, region-all}
 use Rattle.messages.specs.DirectionsRead.{kindsRow, labelsRow, firstsRow, startsRow, outsRow, offsetsRow}
@@ -157,7 +157,7 @@ module _ (out d : ℕ) (r : Float) (words : List ℕ) (w : List Float) (A : Addi
         let P = A .adding .part in
         let x = D .is (P .settings) (P .graph) (P .evidence) (P .part) .pending-is in
         ap length x
-        ∙ length-addTo r _ (set lent d zeroᶠ)
+        ∙ length-addPending r _ (set lent d zeroᶠ)
         ∙ length-set lent d zeroᶠ
         ∙ ap (λ (n : ℕ). length (take n (drop (4 * l) w))) count
         ∙ length-region w (4 * l) (2 * e) along-room

@@ -18,7 +18,7 @@ use Rattle.messages.specs.LayoutKinds.{code-tree}
 use Rattle.messages.specs.DirectionsRead.{startsRow, outsRow}
 use Rattle.messages.specs.State.{Changed, one, around, changedOf}
 use Rattle.zero_lookahead.specs.declared.settings.Settings.{Settings}
-use Rattle.zero_lookahead.specs.Part.{Stands, SomeStanding}
+use Rattle.zero_lookahead.specs.Part.{StandsFor, SomeStanding}
 use Rattle.zero_lookahead.specs.StepReads.{SomePart, reads, start-way, start-is, start-node}
 use Rattle.zero_lookahead.specs.StepSingle.{SingleAlong, no-tree-of}
 use Rattle.zero_lookahead.specs.StepStands.{StandsWith}
@@ -37,7 +37,7 @@ pub record Updated (s : definition.Settings) (t : MessageGraph) (out : ℕ) (evi
   pub stands : StandsWith s t out evidence (updateMessage s t d (x .msgInLog) x .store) pending queue words w
   pub changed : changedOf t c ≡ updateMessage s t d (x .msgInLog) x .changed
 
-module _ (s : definition.Settings) (t : MessageGraph) (out : ℕ) (evidence : List Float) (x : Store) (words : List ℕ) (w : List Float) (S : Stands s t out evidence x words w) (d n : ℕ) (h : d < 2 * getD words 1 0)
+module _ (s : definition.Settings) (t : MessageGraph) (out : ℕ) (evidence : List Float) (x : Store) (words : List ℕ) (w : List Float) (S : StandsFor s t out evidence x words w) (d n : ℕ) (h : d < 2 * getD words 1 0)
     (start : n ≡ getD (startsRow words 0 out) d 0) where
   abbrev begins : n ≡ directionAt t d .start
   begins = start-is s t out evidence words (S .part) d n h start

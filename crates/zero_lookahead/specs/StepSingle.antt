@@ -26,7 +26,7 @@ use Rattle.messages.specs.State.{partFloats, storeOf, buildsOf}
 use Rattle.sweeps.specs.SweepRows.{IsVariable}
 use Rattle.steps.specs.StepUpdate.{SingleAt}
 use Rattle.zero_lookahead.specs.declared.settings.Settings.{Settings}
-use Rattle.zero_lookahead.specs.Part.{Given, flagsRow, queueRow, PartWords, Stands}
+use Rattle.zero_lookahead.specs.Part.{Given, flagsRow, queueRow, PartWords, StandsFor}
 use Rattle.zero_lookahead.specs.StepReads.{reads, start-way, start-is, start-node}
 use Rattle.zero_lookahead.specs.StepStands.{StandsWith}
 use Rattle.zero_lookahead.specs.Variable.{SomeVariable, kind-word}
@@ -86,7 +86,7 @@ no-tree-of (factor d) f = refl
 no-tree-of (input v) f = refl
 no-tree-of (tree d) f = absurd (f refl)
 
-module _ (s : definition.Settings) (t : MessageGraph) (out : ℕ) (evidence : List Float) (x : Store) (words : List ℕ) (w : List Float) (S : Stands s t out evidence x words w) (d n : ℕ) (L : SingleAlong out d n words) where
+module _ (s : definition.Settings) (t : MessageGraph) (out : ℕ) (evidence : List Float) (x : Store) (words : List ℕ) (w : List Float) (S : StandsFor s t out evidence x words w) (d n : ℕ) (L : SingleAlong out d n words) where
   abbrev P : PartWords s t out evidence words
   P = S .part
 

@@ -19,9 +19,9 @@ use Rattle.messages.specs.LayoutCopy.{length-copied}
 use Rattle.messages.specs.LayoutCut.{cut-long}
 use Rattle.messages.specs.DirectionsRead.{kindsRow, labelsRow, firstsRow, startsRow, outsRow, offsetsRow}
 use Rattle.messages.specs.State.{partFloats, buildsOf, storeOf, Changed, changedOf}
-use Rattle.steps.specs.StepLog.{PartAt, Along, Within, logged, taken, logged-cut, taken-cut}
+use Rattle.steps.specs.StepLog.{PartAt, Along, ChangedBelow, logged, taken, logged-cut, taken-cut}
 use Rattle.steps.specs.StepPart.{part-at, along-of}
-use Rattle.zero_lookahead.specs.Part.{flagsRow, queueRow, Stands}
+use Rattle.zero_lookahead.specs.Part.{flagsRow, queueRow, StandsFor}
 use Rattle.zero_lookahead.specs.StepReads.{reads}
 
 pub record SomeStands (out : ℕ) (words : List ℕ) (w : List Float) : Type 0 where
@@ -29,11 +29,11 @@ pub record SomeStands (out : ℕ) (words : List ℕ) (w : List Float) : Type 0 w
   pub graph : MessageGraph
   pub evidence : List Float
   pub store : Store
-  pub stands : Stands settings graph out evidence store words w
+  pub stands : StandsFor settings graph out evidence store words w
 
 -- the words and floats stand for a store, and beside it for what is pending and for a queue
 pub record StandsWith (s : Settings) (t : MessageGraph) (out : ℕ) (evidence : List Float) (x : Store) (pending : List Float) (queue : List ℕ) (words : List ℕ) (w : List Float) : Type 0 where
-  pub stands : Stands s t out evidence x words w
+  pub stands : StandsFor s t out evidence x words w
   pub pending-is : stands .pending ≡ pending
   pub queue-is : queueRow words out ≡ queue
 
@@ -45,7 +45,7 @@ loggedStore t ns x = record { msgIn = x .msgIn; msgInNew = x .msgInNew; msgInLog
 abbrev pub takenStore : MessageGraph → ℕ → Store → Store
 takenStore t n x = record { msgIn = copyNodes t (x .msgInNew) (neighbourNumbers t (nodeAt t n)) (x .msgIn); msgInNew = x .msgInNew; msgInLog = x .msgInLog; lastBuilds = x .lastBuilds }
 
-module _ (s : Settings) (t : MessageGraph) (out : ℕ) (evidence : List Float) (x : Store) (words : List ℕ) (w : List Float) (S : Stands s t out evidence x words w) where
+module _ (s : Settings) (t : MessageGraph) (out : ℕ) (evidence : List Float) (x : Store) (words : List ℕ) (w : List Float) (S : StandsFor s t out evidence x words w) where
   -- what `update_log` and `copy_neighbours` ask
   abbrev pub stands-part : PartAt (firstsRow words 0) (startsRow words 0 out) (offsetsRow words 0 out) w
   stands-part =
@@ -76,12 +76,12 @@ module _ (s : Settings) (t : MessageGraph) (out : ℕ) (evidence : List Float) (
       (residual-small t (cut (t .directions) (S .rIn)) (cut (t .directions) (S .rLog)) d (λ c h. cut-long (t .directions) (S .rIn) c (S .floats .in-long) h) (λ c h. cut-long (t .directions) (S .rLog) c (S .floats .log-long) h) .clear-sign)
 
   -- a node that changed is there
-  pub stands-within : (c : Changed) → Within c (getD words 0 0 + 1) → Within c (length (firstsRow words 0))
-  stands-within c h = subst (Within c) (let Q = reads s t out evidence words (S .part) in let z : getD words 0 0 + 1 ≡ length (firstsRow words 0) = omega (arith, Q .firsts-long, S .part .nodes) in z) h
+  pub stands-within : (c : Changed) → ChangedBelow c (getD words 0 0 + 1) → ChangedBelow c (length (firstsRow words 0))
+  stands-within c h = subst (ChangedBelow c) (let Q = reads s t out evidence words (S .part) in let z : getD words 0 0 + 1 ≡ length (firstsRow words 0) = omega (arith, Q .firsts-long, S .part .nodes) in z) h
 
 -- ---- the log
 module _ (s : Settings) (t : MessageGraph) (out : ℕ) (evidence : List Float) (x : Store) (pending : List Float) (queue words : List ℕ) (w : List Float) (W : StandsWith s t out evidence x pending queue words w) where
-  abbrev S : Stands s t out evidence x words w
+  abbrev S : StandsFor s t out evidence x words w
   S = W .stands
 
   pub stands-logged : (c : Changed) (w′ : List Float) → w′ ≡ partFloats (S .rIn) (S .rNew) (logged t c (S .rIn) (S .rLog)) (S .rBuild) (S .pending) (S .rest)
@@ -113,7 +113,7 @@ module _ (s : Settings) (t : MessageGraph) (out : ℕ) (evidence : List Float) (
       }
 
 -- ---- what the neighbours of a tree take over
-module _ (s : Settings) (t : MessageGraph) (out : ℕ) (evidence : List Float) (x : Store) (words : List ℕ) (w : List Float) (S : Stands s t out evidence x words w) (n : ℕ) where
+module _ (s : Settings) (t : MessageGraph) (out : ℕ) (evidence : List Float) (x : Store) (words : List ℕ) (w : List Float) (S : StandsFor s t out evidence x words w) (n : ℕ) where
   pub stands-taken : (w′ : List Float) → w′ ≡ partFloats (taken t n (S .rNew) (S .rIn)) (S .rNew) (S .rLog) (S .rBuild) (S .pending) (S .rest) → (p : List Float) (q : List ℕ) → S .pending ≡ p → queueRow words out ≡ q
       → StandsWith s t out evidence (takenStore t n x) p q words w′
   unfolding storeOf

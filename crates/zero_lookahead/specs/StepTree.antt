@@ -27,7 +27,7 @@ use Rattle.messages.specs.State.{storeOf, buildOf, buildsOf}
 use Rattle.sweeps.specs.SweepNode.{builtIn, flagAfter, sentBy, NodeSent}
 use Rattle.sweeps.specs.SweepRows.{sends-fit}
 use Rattle.sweeps.specs.SweepTree.{of-tree}
-use Rattle.zero_lookahead.specs.Part.{rowsEnd, flagsRow, queueRow, PartWords, Stands, KeptFront}
+use Rattle.zero_lookahead.specs.Part.{rowsEnd, flagsRow, queueRow, PartWords, StandsFor, KeptFront}
 use Rattle.zero_lookahead.specs.PartKept.{flags-part, flags-front, flags-are, flags-queue, flag-set, flag-set-long}
 use Rattle.zero_lookahead.specs.StepStands.{SomeStands, StandsWith, takenStore}
 use Rattle.zero_lookahead.specs.SweepBuilds.{builds-at, length-built, built-next}
@@ -61,7 +61,7 @@ pub flag-kept : (out n : ℕ) (words : List ℕ) → words ≡ flagged false out
 flag-kept out n words = sym (set-getD words (rowsEnd words out + n) 0)
 
 -- ---- what it sends
-module _ (s : Settings) (t : MessageGraph) (out : ℕ) (evidence : List Float) (x : Store) (words : List ℕ) (w : List Float) (S : Stands s t out evidence x words w) (n : ℕ) (h : n < getD words 0 0) where
+module _ (s : Settings) (t : MessageGraph) (out : ℕ) (evidence : List Float) (x : Store) (words : List ℕ) (w : List Float) (S : StandsFor s t out evidence x words w) (n : ℕ) (h : n < getD words 0 0) where
   abbrev P : PartWords s t out evidence words
   P = S .part
 
@@ -185,7 +185,7 @@ module _ (s : Settings) (t : MessageGraph) (out : ℕ) (evidence : List Float) (
 module _ (tolerance : Float) (out n : ℕ) (words : List ℕ) (w : List Float) (T : SomeTree tolerance out n words w) (anew : Bool) (w₁ : List Float) (words₁ : List ℕ) (stored : words₁ ≡ flagged anew out n words)
     (sends : (s : Settings) (t : MessageGraph) (evidence rIn rNew rLog rBuild pending rest : List Float) → NodeRows s t out evidence words w rIn rNew rLog rBuild pending rest n → s .tolerance ≡ tolerance
     → NodeSent s t rIn rNew rLog rBuild pending rest (getD words (rowsEnd words out + n) 0) n anew w₁) where
-  sent-node : (s : Settings) (t : MessageGraph) (evidence : List Float) (x : Store) (S : Stands s t out evidence x words w) → s .tolerance ≡ tolerance
+  sent-node : (s : Settings) (t : MessageGraph) (evidence : List Float) (x : Store) (S : StandsFor s t out evidence x words w) → s .tolerance ≡ tolerance
       → NodeSent s t (S .rIn) (S .rNew) (S .rLog) (S .rBuild) (S .pending) (S .rest) (getD words (rowsEnd words out + n) 0) n anew w₁
   sent-node s t evidence x S e = sends s t evidence (S .rIn) (S .rNew) (S .rLog) (S .rBuild) (S .pending) (S .rest) (tree-rows s t out evidence x words w S n (T .there)) e
 

@@ -26,7 +26,7 @@ use Rattle.messages.specs.State.{FloatRows, partFloats, buildOf, buildsOf, stor
 use Rattle.sweeps.specs.SweepRows.{sends-fit}
 use Rattle.sweeps.specs.SweepRotate.{rotated, rotated-rows}
 use Rattle.sweeps.specs.SweepNode.{NodeSent, builtIn, flagAfter}
-use Rattle.zero_lookahead.specs.Part.{rowsEnd, flagsRow, PartWords, Stands, KeptFront}
+use Rattle.zero_lookahead.specs.Part.{rowsEnd, flagsRow, PartWords, StandsFor, KeptFront}
 use Rattle.zero_lookahead.specs.PartKept.{flag-set, flag-set-long, flags-part, flags-front, flags-are}
 use Rattle.zero_lookahead.specs.SweepBuilds.{length-builds, builds-at, length-built, built-next}
 use Rattle.zero_lookahead.specs.SweepSend.{NodeRows, SomeNode}
@@ -55,7 +55,7 @@ flags-long : {s : Settings} {t : MessageGraph} {out : ℕ} {evidence : List Floa
 flags-long {out = out} {words = words} P = length-region words (rowsEnd words out) (getD words 0 0) (omega (arith, P .room)) ∙ P .nodes
 
 -- ---- at the start
-pub swept-none : {s : Settings} {t : MessageGraph} {out : ℕ} {evidence : List Float} {x : Store} {words : List ℕ} {w : List Float} → Stands s t out evidence x words w → Swept s t out evidence x 0 words w
+pub swept-none : {s : Settings} {t : MessageGraph} {out : ℕ} {evidence : List Float} {x : Store} {words : List ℕ} {w : List Float} → StandsFor s t out evidence x words w → Swept s t out evidence x 0 words w
 unfolding storeOf computeUpdate
 swept-none {t = t} {out = out} {words = words} S =
     record {
@@ -199,7 +199,7 @@ module _ {s : Settings} {t : MessageGraph} {out : ℕ} {evidence : List Float} {
 
 -- ---- all nodes have sent, and the rows change places
 pub swept-all : {s : Settings} {t : MessageGraph} {out : ℕ} {evidence : List Float} {x : Store} {words : List ℕ} {w : List Float} (n l : ℕ) (w′ : List Float) → Swept s t out evidence x n words w → length (t .nodes) ≤ n → l ≡ width (t .directions)
-    → w′ ≡ rotated l w → Stands s t out evidence (sweep s t x) words w′
+    → w′ ≡ rotated l w → StandsFor s t out evidence (sweep s t x) words w′
 unfolding storeOf sweep
 swept-all {s = s} {t = t} {x = x} n l w′ S h e q =
     let F = S .floats in

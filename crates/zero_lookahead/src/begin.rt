@@ -9,7 +9,7 @@ ghost use Rattle.definition.specs.Sweeps.{Store};
 ghost use Rattle.definition.specs.Run.{beginLoop};
 ghost use Rattle.list_laws.specs.Write.{write};
 ghost use Rattle.array_utils.specs.LogTable.{logTable};
-ghost use Rattle.zero_lookahead.specs.Part.{Given, leavesIn, queueAt, Stands, Runs, KeptFront};
+ghost use Rattle.zero_lookahead.specs.Part.{Given, leavesIn, queueAt, StandsFor, Runs, KeptFront};
 ghost use Rattle.zero_lookahead.specs.BeginKeys.{SomeStandingAny, leafKey};
 use crate::open::clear_pending;
 use crate::settings::Settings;
@@ -29,7 +29,7 @@ fn leaf_key(
 ) -> u32
     requires { ⌜ now table ≡ logTable ⌝ }
     requires { ⌜ SomeStandingAny settings out (now words) (now w) ⌝ }
-    ensures { λ r. ⌜ ((s : definition.Settings) (t : MessageGraph) (evidence : List Float) (x : Store) → Stands s t out evidence x (now (words .entry)) (now (w .entry)) → Given s settings → r ≡ leafKey s t x d) ⌝ }
+    ensures { λ r. ⌜ ((s : definition.Settings) (t : MessageGraph) (evidence : List Float) (x : Store) → StandsFor s t out evidence x (now (words .entry)) (now (w .entry)) → Given s settings → r ≡ leafKey s t x d) ⌝ }
 {
     let edges = word(words, 1);
     if 2 * edges <= d {
@@ -59,7 +59,7 @@ fn fill_leaves(
     requires { ⌜ now table ≡ logTable ⌝ }
     requires { ⌜ SomeStandingAny settings out (now words) (now w) ⌝ }
     requires { ⌜ (at ≡ queueAt (now words) out + leavesIn (now words)) × (leaves ≡ leavesIn (now words)) ⌝ }
-    ensures { λ _. ⌜ ((s : definition.Settings) (t : MessageGraph) (evidence : List Float) (x : Store) → Stands s t out evidence x (now (words .entry)) (now (w .entry)) → Given s settings → now (words .exit) ≡ write (now (words .entry)) at leaves (leafKey s t x)) ⌝ }
+    ensures { λ _. ⌜ ((s : definition.Settings) (t : MessageGraph) (evidence : List Float) (x : Store) → StandsFor s t out evidence x (now (words .entry)) (now (w .entry)) → Given s settings → now (words .exit) ≡ write (now (words .entry)) at leaves (leafKey s t x)) ⌝ }
 {
     let mut d = 0;
     while d < leaves {
@@ -73,7 +73,7 @@ pub fn begin(table: &[f32; 1025], w: &mut [f32], words: &mut [u32], out: usize, 
     requires { ⌜ now table ≡ logTable ⌝ }
     requires { ⌜ SomeStandingAny settings out (now words) (now w) ⌝ }
     ensures { λ _. ⌜ KeptFront out (now (words .entry)) (now (words .exit)) ⌝ }
-    ensures { λ _. ⌜ ((s : definition.Settings) (t : MessageGraph) (evidence : List Float) (x : Store) → Stands s t out evidence x (now (words .entry)) (now (w .entry)) → Given s settings → Runs s t out evidence (beginLoop s t x) (now (words .exit)) (now (w .exit))) ⌝ }
+    ensures { λ _. ⌜ ((s : definition.Settings) (t : MessageGraph) (evidence : List Float) (x : Store) → StandsFor s t out evidence x (now (words .entry)) (now (w .entry)) → Given s settings → Runs s t out evidence (beginLoop s t x) (now (words .exit)) (now (w .exit))) ⌝ }
 {
     clear_pending(w, words, out, 0);
     let nodes = word(words, 0);

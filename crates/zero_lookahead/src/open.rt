@@ -6,7 +6,7 @@ ghost use Rattle.definition.specs.Directions.{MessageGraph};
 ghost use Rattle.definition.specs.Sweeps.{opening};
 ghost use Rattle.list_laws.specs.Put.{put};
 ghost use Rattle.array_utils.specs.LogTable.{logTable};
-ghost use Rattle.zero_lookahead.specs.Part.{Given, rowsEnd, Room, SomeRoom, Stands, KeptFront};
+ghost use Rattle.zero_lookahead.specs.Part.{Given, rowsEnd, PartRoom, SomePartRoom, StandsFor, KeptFront};
 ghost use Rattle.zero_lookahead.specs.Open.{PendingFits, pendingCleared, OpenedPart, FlagsFit};
 use crate::settings::Settings;
 use crate::words::word;
@@ -39,8 +39,8 @@ fn open_floats(
     settings: Settings,
 )
     requires { ⌜ now table ≡ logTable ⌝ }
-    requires { ⌜ SomeRoom settings out (now evidence) (now words) (now w) ⌝ }
-    ensures { λ _. ⌜ ((s : definition.Settings) (t : MessageGraph) → Room s t out (now (evidence .entry)) (now (words .entry)) (now (w .entry)) → Given s settings → OpenedPart s t (now (w .exit))) ⌝ }
+    requires { ⌜ SomePartRoom settings out (now evidence) (now words) (now w) ⌝ }
+    ensures { λ _. ⌜ ((s : definition.Settings) (t : MessageGraph) → PartRoom s t out (now (evidence .entry)) (now (words .entry)) (now (w .entry)) → Given s settings → OpenedPart s t (now (w .exit))) ⌝ }
 {
     clear_pending(w, words, out, 1664);
     let kinds = kinds_row(words, 0);
@@ -86,9 +86,9 @@ pub fn open(
     settings: Settings,
 )
     requires { ⌜ now table ≡ logTable ⌝ }
-    requires { ⌜ SomeRoom settings out (now evidence) (now words) (now w) ⌝ }
+    requires { ⌜ SomePartRoom settings out (now evidence) (now words) (now w) ⌝ }
     ensures { λ _. ⌜ KeptFront out (now (words .entry)) (now (words .exit)) ⌝ }
-    ensures { λ _. ⌜ ((s : definition.Settings) (t : MessageGraph) → Room s t out (now (evidence .entry)) (now (words .entry)) (now (w .entry)) → Given s settings → Stands s t out (now (evidence .entry)) (opening s t) (now (words .exit)) (now (w .exit))) ⌝ }
+    ensures { λ _. ⌜ ((s : definition.Settings) (t : MessageGraph) → PartRoom s t out (now (evidence .entry)) (now (words .entry)) (now (w .entry)) → Given s settings → StandsFor s t out (now (evidence .entry)) (opening s t) (now (words .exit)) (now (w .exit))) ⌝ }
 {
     open_floats(table, w, words, out, evidence, settings);
     clear_flags(words, out);

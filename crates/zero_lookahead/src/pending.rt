@@ -1,7 +1,7 @@
 // The residuals that are pending and the queue of what waits, in a part's words, after a step along one direction: `compute_total_residuals`, `compute_priority`.
 ghost use mathlib.Core.Path.{_≡_};
 ghost use mathlib.Core.Option.{none, some};
-ghost use Prim.Native.Nat.{_+_, _*_, _≤_, _<_};
+ghost use Prim.Native.Nat.{_*_, _≤_, _<_};
 ghost use lib.Dec.{T};
 ghost use lib.ListN.{length, getD, set};
 ghost use Rattle.definition.specs.Floats.{_⊕_, zeroᶠ};

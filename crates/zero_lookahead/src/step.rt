@@ -13,8 +13,8 @@ ghost use Rattle.definition.specs.Sweeps.{Store};
 ghost use Rattle.array_utils.specs.LogTable.{logTable};
 ghost use Rattle.messages.specs.State.{changedOf};
 ghost use Rattle.steps.specs.StepChanged.{changedFrom};
-ghost use Rattle.steps.specs.StepLog.{Within};
-ghost use Rattle.zero_lookahead.specs.Part.{Given, Stands, Runs, SomeRunning, KeptFront};
+ghost use Rattle.steps.specs.StepLog.{ChangedBelow};
+ghost use Rattle.zero_lookahead.specs.Part.{Given, StandsFor, Runs, SomeRunning, KeptFront};
 ghost use Rattle.zero_lookahead.specs.StepStands.{SomeStands, StandsWith, loggedStore};
 use crate::pending::add_along;
 use crate::settings::Settings;
@@ -30,14 +30,14 @@ use steps::log::update_log;
 fn residual_along(table: &[f32; 1025], w: &[f32], words: &[u32], out: usize, d: usize) -> f32
     requires { ⌜ now table ≡ logTable ⌝ }
     requires { ⌜ SomeStands out (now words) (now w) × (d < 2 * getD (now words) 1 0) ⌝ }
-    ensures { λ r. ⌜ ((s : definition.Settings) (t : MessageGraph) (evidence : List Float) (x : Store) → Stands s t out evidence x (now (words .entry)) (now (w .entry)) → r ≡ residual t (x .msgIn) (x .msgInLog) d) ⌝ }
+    ensures { λ r. ⌜ ((s : definition.Settings) (t : MessageGraph) (evidence : List Float) (x : Store) → StandsFor s t out evidence x (now (words .entry)) (now (w .entry)) → r ≡ residual t (x .msgIn) (x .msgInLog) d) ⌝ }
 {
     residual_at(table, w, offsets_row(words, 0, out), d)
 }
 
 // What the nodes that changed hold, copied into the log.
 fn log_changed(w: &mut [f32], words: &[u32], out: usize, changed: Changed)
-    requires { ⌜ SomeStands out (now words) (now w) × Within (changedFrom changed) (getD (now words) 0 0 + 1) ⌝ }
+    requires { ⌜ SomeStands out (now words) (now w) × ChangedBelow (changedFrom changed) (getD (now words) 0 0 + 1) ⌝ }
     ensures { λ _. ⌜ ((s : definition.Settings) (t : MessageGraph) (evidence : List Float) (x : Store) (pending : List Float) (queue : List ℕ) → StandsWith s t out evidence x pending queue (now (words .entry)) (now (w .entry)) → StandsWith s t out evidence (loggedStore t (changedOf t (changedFrom changed)) x) pending queue (now (words .entry)) (now (w .exit))) ⌝ }
 {
     let firsts = firsts_row(words, 0);
@@ -59,8 +59,8 @@ pub fn scheduled_step(
 ) -> Changed
     requires { ⌜ now table ≡ logTable ⌝ }
     requires { ⌜ SomeRunning settings out (now evidence) (now words) (now w) ⌝ }
-    requires { ⌜ (d < 2 * getD (now words) 1 0) × Within (changedFrom changed) (getD (now words) 0 0 + 1) ⌝ }
-    ensures { λ r. ⌜ KeptFront out (now (words .entry)) (now (words .exit)) × Within (changedFrom r) (getD (now (words .exit)) 0 0 + 1) ⌝ }
+    requires { ⌜ (d < 2 * getD (now words) 1 0) × ChangedBelow (changedFrom changed) (getD (now words) 0 0 + 1) ⌝ }
+    ensures { λ r. ⌜ KeptFront out (now (words .entry)) (now (words .exit)) × ChangedBelow (changedFrom r) (getD (now (words .exit)) 0 0 + 1) ⌝ }
     ensures { λ r. ⌜ ((s : definition.Settings) (t : MessageGraph) (x : State) (b : Highest) → Runs s t out (now (evidence .entry)) x (now (words .entry)) (now (w .entry)) → Given s settings → b .direction ≡ d → changedOf t (changedFrom changed) ≡ x .changed → Runs s t out (now (evidence .entry)) (scheduledStep s t b x) (now (words .exit)) (now (w .exit)) × (changedOf t (changedFrom r) ≡ scheduledStep s t b x .changed)) ⌝ }
 {
     let r = residual_along(table, w, words, out, d);

@@ -10,7 +10,7 @@ ghost use Rattle.definition.specs.Directions.{MessageGraph};
 ghost use Rattle.definition.specs.Sweeps.{Store, sweep};
 ghost use Rattle.array_utils.specs.LogTable.{logTable};
 ghost use Rattle.sweeps.specs.SweepNode.{NodeSent};
-ghost use Rattle.zero_lookahead.specs.Part.{rowsEnd, Given, Stands, SomeStanding, KeptFront};
+ghost use Rattle.zero_lookahead.specs.Part.{rowsEnd, Given, StandsFor, SomeStanding, KeptFront};
 ghost use Rattle.zero_lookahead.specs.SweepLoop.{Swept};
 ghost use Rattle.zero_lookahead.specs.SweepSend.{NodeRows, SomeNode, SomeNodeOf};
 use crate::belief::initial_belief;
@@ -150,7 +150,7 @@ fn send_nodes(
     requires { ⌜ now table ≡ logTable ⌝ }
     requires { ⌜ SomeStanding settings out (now evidence) (now words) (now w) ⌝ }
     ensures { λ _. ⌜ KeptFront out (now (words .entry)) (now (words .exit)) ⌝ }
-    ensures { λ _. ⌜ ((s : definition.Settings) (t : MessageGraph) (x : Store) → Stands s t out (now (evidence .entry)) x (now (words .entry)) (now (w .entry)) → Given s settings → Swept s t out (now (evidence .entry)) x (length (t .nodes)) (now (words .exit)) (now (w .exit))) ⌝ }
+    ensures { λ _. ⌜ ((s : definition.Settings) (t : MessageGraph) (x : Store) → StandsFor s t out (now (evidence .entry)) x (now (words .entry)) (now (w .entry)) → Given s settings → Swept s t out (now (evidence .entry)) x (length (t .nodes)) (now (words .exit)) (now (w .exit))) ⌝ }
 {
     let nodes = word(words, 0);
     let edges = word(words, 1);
@@ -175,7 +175,7 @@ pub fn sweep(
     requires { ⌜ now table ≡ logTable ⌝ }
     requires { ⌜ SomeStanding settings out (now evidence) (now words) (now w) ⌝ }
     ensures { λ _. ⌜ KeptFront out (now (words .entry)) (now (words .exit)) ⌝ }
-    ensures { λ _. ⌜ ((s : definition.Settings) (t : MessageGraph) (x : Store) → Stands s t out (now (evidence .entry)) x (now (words .entry)) (now (w .entry)) → Given s settings → Stands s t out (now (evidence .entry)) (sweep s t x) (now (words .exit)) (now (w .exit))) ⌝ }
+    ensures { λ _. ⌜ ((s : definition.Settings) (t : MessageGraph) (x : Store) → StandsFor s t out (now (evidence .entry)) x (now (words .entry)) (now (w .entry)) → Given s settings → StandsFor s t out (now (evidence .entry)) (sweep s t x) (now (words .exit)) (now (w .exit))) ⌝ }
 {
     send_nodes(table, w, words, out, evidence, settings);
     let edges = word(words, 1);

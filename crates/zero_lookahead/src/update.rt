@@ -12,7 +12,7 @@ ghost use Rattle.definition.specs.Sweeps.{Store};
 ghost use Rattle.definition.specs.Run.{updateSingle, updateTree};
 ghost use Rattle.array_utils.specs.LogTable.{logTable};
 ghost use Rattle.steps.specs.StepChanged.{changedFrom};
-ghost use Rattle.steps.specs.StepLog.{Within};
+ghost use Rattle.steps.specs.StepLog.{ChangedBelow};
 ghost use Rattle.sweeps.specs.SweepRows.{IsVariable};
 ghost use Rattle.zero_lookahead.specs.Part.{Given, PartWords, SomeStanding, KeptFront};
 ghost use Rattle.zero_lookahead.specs.StepMessage.{Updated};
@@ -140,7 +140,7 @@ pub(crate) fn update_message(
 ) -> Changed
     requires { ⌜ now table ≡ logTable ⌝ }
     requires { ⌜ SomeStanding settings out (now evidence) (now words) (now w) × (d < 2 * getD (now words) 1 0) ⌝ }
-    ensures { λ r. ⌜ KeptFront out (now (words .entry)) (now (words .exit)) × Within (changedFrom r) (getD (now (words .entry)) 0 0 + 1) ⌝ }
+    ensures { λ r. ⌜ KeptFront out (now (words .entry)) (now (words .exit)) × ChangedBelow (changedFrom r) (getD (now (words .entry)) 0 0 + 1) ⌝ }
     ensures { λ r. ⌜ ((s : definition.Settings) (t : MessageGraph) (x : Store) (pending : List Float) (queue : List ℕ) → StandsWith s t out (now (evidence .entry)) x pending queue (now (words .entry)) (now (w .entry)) → Given s settings → Updated s t out (now (evidence .entry)) x d pending queue (now (words .exit)) (now (w .exit)) (changedFrom r)) ⌝ }
 {
     let n = start_at(words, out, d);

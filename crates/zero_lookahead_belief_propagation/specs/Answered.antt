@@ -11,11 +11,12 @@ use lib.Seq.{take-suc, take-all, length-take-le, take-append-seam, drop-append-s
 use Rattle.definition.specs.Settings.{Settings}
 use Rattle.definition.specs.FactorGraph.{Bale, Node}
 use Rattle.definition.specs.Components.{componentsOf}
-use Rattle.definition.specs.Answer.{Belief, PartAnswer, answersOf, answersFrom, answer, endingNumber, endingResidual, answeredBeliefs, beliefNumbers, beliefFloats, endingNumbers, endingFloats}
+use Rattle.definition.specs.Answer.{PartAnswer, answersOf, answersFrom, answer, endingNumber, endingResidual, answeredBeliefs, beliefNumbers, beliefFloats, endingNumbers, endingFloats}
 use Rattle.definition.specs.Call.{overwrite}
-use Rattle.graph_laws.specs.Lists.{All, All-left}
-use Rattle.graph_laws.specs.AnswerSizes.{TwoFloats, AnswerSizes, numbers-length, floats-length, endings-length, residuals-length}
+use Rattle.graph_laws.specs.Lists.{concat-map-append, All, All-left}
+use Rattle.graph_laws.specs.AnswerSizes.{TwoFloats, AnswerSizes, numbers-length, floats-append, floats-length, endings-length, residuals-length}
 use Rattle.graph_laws.specs.Overwriting.{over-length}
+use Rattle.graph_laws.specs.ReadBack.{numbers-append}
 
 -- ---- a slice from an index on, as it is lent, and what is left in the whole
 
@@ -85,22 +86,11 @@ written-none l = record { beliefs-are = refl; endings-are = refl; is = refl }
 
 answered-append : (qs rs : List PartAnswer) → answeredBeliefs (qs ++ rs) ≡ answeredBeliefs qs ++ answeredBeliefs rs
 unfolding answeredBeliefs
-answered-append [] rs = refl
-answered-append (q ∷ qs) rs = ap (λ (l : List Belief). q .beliefs ++ l) (answered-append qs rs) ∙ sym (append-assoc (q .beliefs) (answeredBeliefs qs) (answeredBeliefs rs))
-
-floats-append : (bs cs : List Belief) → beliefFloats (bs ++ cs) ≡ beliefFloats bs ++ beliefFloats cs
-unfolding beliefFloats
-floats-append [] cs = refl
-floats-append (x ∷ bs) cs = ap (λ (l : List Float). x .value ++ l) (floats-append bs cs) ∙ sym (append-assoc (x .value) (beliefFloats bs) (beliefFloats cs))
-
-numbers-append : (bs cs : List Belief) → beliefNumbers (bs ++ cs) ≡ beliefNumbers bs ++ beliefNumbers cs
-unfolding beliefNumbers
-numbers-append bs cs = map-append (λ (x : Belief). x .grade) bs cs
+answered-append = concat-map-append (λ (q : PartAnswer). q .beliefs)
 
 endings-append : (qs rs : List PartAnswer) → endingNumbers (qs ++ rs) ≡ endingNumbers qs ++ endingNumbers rs
 unfolding endingNumbers
-endings-append [] rs = refl
-endings-append (q ∷ qs) rs = ap (λ (l : List ℕ). q .number ∷ endingNumber (q .ending) ∷ q .steps ∷ length (q .beliefs) ∷ l) (endings-append qs rs)
+endings-append = concat-map-append (λ (q : PartAnswer). q .number ∷ endingNumber (q .ending) ∷ q .steps ∷ length (q .beliefs) ∷ [])
 
 residuals-append : (qs rs : List PartAnswer) → endingFloats (qs ++ rs) ≡ endingFloats qs ++ endingFloats rs
 unfolding endingFloats

@@ -16,17 +16,17 @@ use Rattle.definition.specs.Sweeps.{Store}
 use Rattle.definition.specs.Run.{run}
 use Rattle.definition.specs.Answer.{PartAnswer, beliefsAmong, partAnswer, answersOf}
 use Rattle.definition.specs.Call.{overwrite}
+use Rattle.definition.specs.Settings.{settingsOf}
 use Rattle.claims.specs.Parts.{AcceptedPart}
 use Rattle.list_laws.specs.Put.{put}
 use Rattle.factor_graph.specs.Words.{label}
-use Rattle.messages.specs.State.{settingsWith}
 use Rattle.messages.specs.DirectionsRecord.{recordEnd, Recorded, node-count, edge-count, recorded-kept}
 use Rattle.messages.specs.DirectionsRows.{directionRows}
 use Rattle.messages.specs.Directions.{Ready}
 use Rattle.messages.specs.DirectionsRead.{Laid, laid-put, labelsRow}
 use Rattle.zero_lookahead.specs.declared.settings.Settings.{Settings}
 use Rattle.part.specs.declared.run.Ending.{Ending}
-use Rattle.zero_lookahead.specs.Part.{Given, Room, Stands, KeptFront}
+use Rattle.zero_lookahead.specs.Part.{Given, PartRoom, StandsFor, KeptFront}
 use Rattle.part.specs.Ending.{endingFrom, Ran}
 use Rattle.part.specs.Named.{Named, Believed, SomeBeliefs}
 use Rattle.part.specs.AcceptedWords.{labels-recorded}
@@ -34,7 +34,7 @@ use Rattle.part.specs.Accepted.{part-words, part-floats, part-narrow, part-few,
 use Rattle.zero_lookahead_belief_propagation.specs.Answered.{Answers, Fits, partAt}
 
 abbrev pub settingsFrom : Settings → ℕ → definition.Settings
-settingsFrom g limit = settingsWith (g .alpha) (g .beta) (g .prior) (g .regularised) (g .tolerance) limit
+settingsFrom g limit = settingsOf (g .alpha) (g .beta) (g .prior) (g .regularised) (g .tolerance) limit
 
 -- Part number n of an accepted call: its record is at the front of the words, and from index `out` on there is room for its rows, its flags and its queue.
 -- The words are the work from some index on, and the work has the length that the call asks for.
@@ -145,7 +145,7 @@ module _ (s : definition.Settings) (b : Bale) (n out : ℕ) (evidence : List Flo
     unfolding put
     large-front = ap (take out) filled ∙ take-at (take out words) _ out (length-take-le out words (omega (arith, rows-room)))
 
-    pub large-room : (w : List Float) → length w ≡ floats → length words₁ ≡ length words → Room s (messageGraphOf b p) out evidence words₁ w
+    pub large-room : (w : List Float) → length w ≡ floats → length words₁ ≡ length words → PartRoom s (messageGraphOf b p) out evidence words₁ w
     large-room w e l =
         let N = node-count words₁ 0 (map label p) g (large-laid .recorded) in
         let E = edge-count words₁ 0 (map label p) g (large-laid .recorded) in
@@ -182,7 +182,7 @@ module _ (s : definition.Settings) (b : Bale) (n out : ℕ) (evidence : List Flo
 
       -- by what `beliefs` ensures
       pub large-runs : (h : Settings) → Given s h → (numbers numbers′ : List ℕ) (fs fs′ : List Float) (count : ℕ) → length numbers ≡ m → length fs ≡ k
-          → ((s : definition.Settings) (t : MessageGraph) (evidence : List Float) (x : Store) (ns : List Node) → Stands s t out evidence x words₂ w₂ → Given s h → Named t ns (labelsRow words₂ 0)
+          → ((s : definition.Settings) (t : MessageGraph) (evidence : List Float) (x : Store) (ns : List Node) → StandsFor s t out evidence x words₂ w₂ → Given s h → Named t ns (labelsRow words₂ 0)
           → length (beliefsAmong s (x .msgIn) ns (t .nodes)) ≤ length numbers → 2 * length (beliefsAmong s (x .msgIn) ns (t .nodes)) ≤ length fs
           → Believed (beliefsAmong s (x .msgIn) ns (t .nodes)) numbers fs count numbers′ fs′)
           → PartRuns (partAnswer s n (partAt b n) (messageGraphOf b (partAt b n))) numbers fs ending steps count numbers′ fs′

@@ -7,12 +7,11 @@ use mathlib.Core.List.{List}
 use lib.Ieee.{Float}
 use lib.ListN.{length, getD}
 use Rattle.definition.specs.Settings.{Settings}
-use Rattle.definition.specs.FactorGraph.{Bale}
+use Rattle.definition.specs.FactorGraph.{Bale, eqPair}
 use Rattle.definition.specs.Refusals.{Buffers, pairsOf, baleOf, workNeeded, accepted, verdict}
 use Rattle.definition.specs.Answer.{answer}
 use Rattle.graph_laws.specs.Ranks.{NoDup}
 use Rattle.graph_laws.specs.Names.{Valid}
-use Rattle.graph_laws.specs.AloneChecks.{eqPair}
 use Rattle.graph_laws.specs.Accepted.{Passes, passes-all, valid, pairs-apart}
 use Rattle.graph_laws.specs.CallLengths.{room}
 use Rattle.list_laws.specs.Part.{region}

@@ -1,18 +1,23 @@
 -- The call as the code has it, and the definition's.
-use Prim.Native.Nat.{ℕ, _+_, _-_, _*_, _/_, _≤_, _<_}
+use Prim.Native.Nat.{ℕ, suc, _+_, _-_, _*_, _/_, _≤_, _<_}
 use native.Mathlib.Omega.{arith}
-use mathlib.Core.Path.{_≡_, sym, ap, _∙_}
-use mathlib.Core.List.{List, _++_}
-use lib.Ieee.{Float}
-use lib.ListN.{length, take, drop, replicate, length-replicate}
+use mathlib.Core.Path.{_≡_, sym, ap, _∙_, subst}
+use mathlib.Core.Bool.{true}
+use mathlib.Core.List.{List, [], _∷_, _++_}
+use lib.Dec.{T}
+use lib.Ieee.{Float, binary32, nan, fits}
+use lib.ListN.{length, getD, take, drop, replicate, length-replicate}
 use lib.Seq.{length-take-le}
 use Rattle.definition.specs.Floats.{zeroᶠ}
 use Rattle.definition.specs.Settings.{Settings}
 use Rattle.definition.specs.FactorGraph.{Bale}
-use Rattle.definition.specs.Refusals.{baleOf, workNeeded, accepted, verdict}
+use Rattle.definition.specs.Refusals.{markersOf, baleOf, workNeeded, accepted, verdict}
 use Rattle.definition.specs.Answer.{answer}
 use Rattle.definition.specs.Call as definition
 use Rattle.definition.specs.Call.{Lent, sizesOf, Result, answered, refusedAt, overwrite, answeredBy, call}
+use Rattle.claims.specs.Parts.{EvidenceFits, AllEvidence, Binary32}
+use Rattle.claims.specs.CallByParts.{AnsweredByParts}
+use Rattle.message_bounds.specs.CallByParts.{call-by-parts}
 use Rattle.graph_laws.specs.Accepted.{passes-all, sized}
 use Rattle.graph_laws.specs.AnswerSizes.{answer-sizes}
 use Rattle.graph_laws.specs.CallLengths.{Room, room, call-accepted}
@@ -32,6 +37,31 @@ lentWith wf wn bn bf en ef = record { workFloats = wf; workNumbers = wn; beliefN
 
 abbrev pub resultWith : Outcome → Lent → Result
 resultWith r l = record { outcome = outcomeOf r; lent = l }
+
+-- ---- demand 3 of it
+
+-- two floats to a marker
+evidence-fits : (es : List Float) → ((i : ℕ) → T (fits binary32 (getD es i nan))) → AllEvidence EvidenceFits (markersOf es)
+unfolding markersOf
+evidence-fits [] h = tt
+evidence-fits (x ∷ []) h = tt
+evidence-fits (x ∷ y ∷ es) h = (record { absent = h 0; present = h 1 }, evidence-fits es (λ i. h (suc (suc i))))
+
+pub all-fit :
+    (s : Settings) (g : ℕ) (es : List Float) (ps : List ℕ) →
+    fits binary32 (s .alpha) ≡ true → fits binary32 (s .beta) ≡ true → fits binary32 (s .prior) ≡ true →
+    ((i : ℕ) → T (fits binary32 (getD es i nan))) → Binary32 s (baleOf g es ps)
+unfolding baleOf
+all-fit s g es ps a b p h =
+    record { settings = record { alpha = subst T (sym a) tt; beta = subst T (sym b) tt; prior = subst T (sym p) tt }; evidence = evidence-fits es h }
+
+-- a result that is the definition's is answered by parts
+pub by-parts :
+    (s : Settings) (g : ℕ) (es : List Float) (ps : List ℕ) (l : Lent) → Binary32 s (baleOf g es ps) → (r : Result) → r ≡ call s g es ps l →
+    (r ≡ call s g es ps l) × AnsweredByParts s g es ps l r
+by-parts s g es ps l v r e = (e, subst (AnsweredByParts s g es ps l) (sym e) (call-by-parts s g es ps l v))
+
+-- ---- an accepted call
 
 -- the work that is needed, in the slices' lengths
 abbrev needed : ℕ → List Float → List ℕ → ℕ

@@ -2,7 +2,9 @@
 ghost use mathlib.Core.Path.{_≡_};
 ghost use Rattle.definition.specs.Call.{call};
 ghost use Rattle.definition.specs.Refusals.{baleOf, verdict};
-ghost use Rattle.checks.specs.Verdicts.{settingsOf, buffersOf, verdictOf};
+ghost use Rattle.claims.specs.CallByParts.{AnsweredByParts};
+ghost use Rattle.definition.specs.Settings.{settingsOf};
+ghost use Rattle.checks.specs.Verdicts.{buffersOf, verdictOf};
 ghost use Rattle.zero_lookahead_belief_propagation.specs.AnsweredPart.{settingsFrom};
 ghost use Rattle.zero_lookahead_belief_propagation.specs.Called.{lentWith, resultWith};
 use crate::calibrate::calibrate_accepted;
@@ -43,6 +45,7 @@ fn judge(
 
 // Two floats of evidence to a marker, and two numbers to a pair. Of the answer, a number and two floats to a belief, and four numbers and a float to an ending.
 // A refusal leaves all that is lent as it was. An answer leaves zeros in the work that it needed.
+// The second clause is demand 3: each part is bounded, and what is read of it in the buffers is as if it were entered by itself.
 pub fn calibrate_all_subgraphs(
     alpha: f32,
     beta: f32,
@@ -61,6 +64,7 @@ pub fn calibrate_all_subgraphs(
     ending_floats: &mut [f32],
 ) -> Outcome
     ensures { λ r. ⌜ resultWith r (lentWith (now («work_floats» .exit)) (now («work_numbers» .exit)) (now («belief_numbers» .exit)) (now («belief_floats» .exit)) (now («ending_numbers» .exit)) (now («ending_floats» .exit))) ≡ call (settingsOf alpha beta prior regularised tolerance «loop_limit») grades (now (evidence .entry)) (now (pairs .entry)) (lentWith (now («work_floats» .entry)) (now («work_numbers» .entry)) (now («belief_numbers» .entry)) (now («belief_floats» .entry)) (now («ending_numbers» .entry)) (now («ending_floats» .entry))) ⌝ }
+    ensures { λ r. ⌜ AnsweredByParts (settingsOf alpha beta prior regularised tolerance «loop_limit») grades (now (evidence .entry)) (now (pairs .entry)) (lentWith (now («work_floats» .entry)) (now («work_numbers» .entry)) (now («belief_numbers» .entry)) (now («belief_floats» .entry)) (now («ending_numbers» .entry)) (now («ending_floats» .entry))) (resultWith r (lentWith (now («work_floats» .exit)) (now («work_numbers» .exit)) (now («belief_numbers» .exit)) (now («belief_floats» .exit)) (now («ending_numbers» .exit)) (now («ending_floats» .exit)))) ⌝ }
 {
     let settings = Settings {
         alpha: alpha,

@@ -1,93 +1,81 @@
 -- `read_input` meets its contract.
-use Prim.Native.Nat.{_-_}
+use Prim.Native.Nat.{ℕ}
 use native.Mathlib.Omega.{arith}
-use mathlib.Core.List.{[], _++_}
-use mathlib.Core.Path.{refl, sym, subst, _∙_}
-use Rattle.bale_listing.specs.Taken.{SomeTakenIn}
-use Rattle.bale.specs.Reads.{Came, came-more, AfterRead, whole-read, too-much-read}
-use Rattle.bale.specs.declared.Piece.{Piece}
-use borrow.Author.Needs.{needs}
+use mathlib.Core.Bool.{true}
+use mathlib.Core.Path.{subst, _≡_, sym, _∙_}
+use lib.ListN.{length}
+use Rattle.libc.specs.Io.{Moved}
+use Rattle.bale.specs.Program.{afterRead, cameBy, isReading}
+use Rattle.bale.specs.Taking.{HoldsInput, readCall, held-as, going-start, going-taken, going-more, going-less, read-all, Going, toRead}
 use Rattle.bale.proofs.read_input.Statement.{statement}
 use Rattle.bale.proofs.read_input.Tie as tie
 
 abbrev Inv-loop : tie.InvT-loop
-Inv-loop markers₀ pairs₀ input₀ markers pairs input = SomeTakenIn input markers pairs
+Inv-loop markers₀ pairs₀ buffer₀ taking₀ markers pairs buffer taking = Going taking markers pairs × (65536 ≡ length buffer)
 
 abbrev μ-loop : tie.MeasureT-loop
-μ-loop markers₀ pairs₀ input₀ markers pairs input = 4294967297 - input .bytes
+μ-loop markers₀ pairs₀ buffer₀ taking₀ markers pairs buffer taking = toRead taking
+
+large-buffer-requires : tie.Need-large-buffer-requires Inv-loop μ-loop
+large-buffer-requires c κs = tt
 
 begin-requires : tie.Need-begin-requires Inv-loop μ-loop
 begin-requires c κs = tt
 
 loop-holds : tie.Need-loop-holds Inv-loop μ-loop
-loop-holds c = record { bytes = []; taken = c .begin .ensures _ _ (c .before .before .before .pre .0) (c .before .before .before .pre .1) }
+loop-holds c = (going-start _ _ _ (c .begin .ensures _ _ (c .before .before .before .before .pre .0) (c .before .before .before .before .pre .1)), c .before .large-buffer .ensures)
 
-is-decided-requires : tie.Need-is-decided-requires Inv-loop μ-loop
-is-decided-requires c κs = tt
+is-reading-requires : tie.Need-is-reading-requires Inv-loop μ-loop
+is-reading-requires c κs = tt
 
-same-length : tie.Need-same-length Inv-loop μ-loop
-same-length c = c .before .before .before .before .before .loop .inv .taken .taken .markers-now ∙ sym (c .before .before .before .before .before .before .before .before .before .pre .0)
+slice-aggregate-read : tie.Need-slice-aggregate-read Inv-loop μ-loop
+slice-aggregate-read c = c .before .before .before .before .loop .inv .1
 
-same-length-2 : tie.Need-same-length-2 Inv-loop μ-loop
-same-length-2 c = c .before .before .before .before .before .loop .inv .taken .taken .pairs-now ∙ sym (c .before .before .before .before .before .before .before .before .before .pre .1)
+read-requires : tie.Need-read-requires Inv-loop μ-loop
+read-requires c κs = tt
 
-returns : tie.Need-returns Inv-loop μ-loop
-returns c = let x = c .before .before .before .before .before .loop .inv in whole-read (x .bytes) _ _ _ (x .taken) (c .before .before .before .if1 .taken) _ _ (refl, refl)
+slice-aggregate-take-read : tie.Need-slice-aggregate-take-read Inv-loop μ-loop
+slice-aggregate-take-read c = c .before .before .before .before .before .before .before .loop .inv .1 ∙ sym (c .before .before .read .kept .1 .0)
 
-read-piece-requires : tie.Need-read-piece-requires Inv-loop μ-loop
-read-piece-requires c κs = (c .before .before .before .before .before .before .before .loop .inv, c .before .before .before .before .before .if1 .taken)
+take-read-requires : tie.Need-take-read-requires Inv-loop μ-loop
+take-read-requires c κs =
+    let x = c .before .before .before .before .before .before .before .before .before .loop in
+    let m = sym (c .before .before .before .before .before .before .before .before .is-reading .ensures) ∙ c .before .before .before .before .before .before .before .if1 .taken in
+    (going-taken _ _ _ (x .inv .0) m, (x .inv .0 .few m, omega (arith, c .before .before .before .before .read .kept .1 .0, x .inv .1)))
 
-enum-known-piece : tie.Need-enum-known-piece Inv-loop μ-loop
-enum-known-piece c = search needs
+-- what the read gave, taken in
+abbrev before-read : tie.After-slice-known4 Inv-loop μ-loop → tie.At-loop Inv-loop μ-loop
+before-read c = c .before .before .before .before .before .before .before .before .before .before .before .before .before .before
 
--- what a read gave that gave some bytes
-came : (c : tie.After-known-told Inv-loop μ-loop) → Came (c .before .before .before .before .before .before .before .before .before .before .before .before .before .before .before .loop .inv .bytes) (c .before .piece .given .0 .0) (c .before .before .before .before .before .before .before .read-piece .last .1 .0) (c .before .before .before .before .before .before .before .read-piece .last .1 .1 .0)
-came c =
-    let x = c .before .before .before .before .before .before .before .before .before .before .before .before .before .before .before .loop .inv in
-    subst (λ (r : Piece). AfterRead (x .bytes) (c .before .before .before .before .before .before .before .before .before .before .before .before .before .before .before .loop .markers) (c .before .before .before .before .before .before .before .before .before .before .before .before .before .before .before .loop .pairs) r (c .before .before .before .before .before .before .before .read-piece .last .1 .0) (c .before .before .before .before .before .before .before .read-piece .last .1 .1 .0)) (c .before .piece .given .1) (c .before .before .before .before .before .before .before .read-piece .ensures (x .bytes) (x .taken))
+more : (c : tie.After-slice-known4 Inv-loop μ-loop) → isReading (before-read c .loop .taking .phase) ≡ true
+more c = sym (c .before .before .before .before .before .before .before .before .before .before .before .before .before .is-reading .ensures) ∙ c .before .before .before .before .before .before .before .before .before .before .before .before .if1 .taken
+
+held :
+    (c : tie.After-slice-known4 Inv-loop μ-loop) →
+    HoldsInput (afterRead (readCall (c .before .before .before .before .before .before .before .before .before .read .result) (c .before .before .before .before .before .before .before .before .before .read .last .1 .0)) (cameBy (before-read c .loop .inv .0 .reads) .bytes)) (c .before .before .before .before .take-read .result) (c .before .before .before .before .take-read .last .1 .1 .1 .0) (c .before .before .before .before .take-read .last .1 .1 .1 .1 .0)
+held c =
+    let g = before-read c .loop .inv .0 in
+    held-as (c .before .before .before .before .before .before .before .before .before .read .result) (c .before .before .before .before .before .before .before .before .before .read .ok) (cameBy (g .reads) .bytes) (c .before .before .before .before .before .before .before .before .before .read .last .1 .0) _ _ _ (c .before .before .before .before .take-read .ensures _ (g .holds .taken))
 
 loop-less : tie.Need-loop-less Inv-loop μ-loop
-loop-less c = let x = c .before .before .before .before .before .before .before .before .before .before .before .before .before .before .before .loop .inv in omega (arith, came-more (x .bytes) _ _ _ _ _ _ (x .taken) (came c), c .before .before .before .before .before .before .before .before .before .before .before .before .before .if1 .taken)
+loop-less c =
+    let r = c .before .before .before .before .before .before .before .before .before .read in
+    going-less _ _ _ (before-read c .loop .inv .0) (more c) (r .result) (r .last .1 .0) _ _ _ (held c)
 
 loop-again : tie.Need-loop-again Inv-loop μ-loop
-loop-again c = let x = c .before .before .before .before .before .before .before .before .before .before .before .before .before .before .before .loop .inv in record { bytes = x .bytes ++ came c .bytes; taken = came c .taken }
+loop-again c =
+    let r = c .before .before .before .before .before .before .before .before .before .read in
+    let x = before-read c .loop .inv in
+    (going-more _ _ _ (x .0) (more c) (r .result) (r .last .1 .0) _ _ _ (held c) (r .kept .1 .0 ∙ sym (x .1)) (subst (λ (n : ℕ). Moved n (r .result)) (sym (x .1)) (r .ensures)), x .1 ∙ sym (r .kept .1 .0))
 
-enum-told : tie.Need-enum-told Inv-loop μ-loop
-enum-told c = search needs
+same-length : tie.Need-same-length Inv-loop μ-loop
+same-length c = c .before .before .loop .inv .0 .holds .taken .taken .markers-now ∙ sym (c .before .before .before .before .before .before .before .pre .0)
 
-same-length-3 : tie.Need-same-length-3 Inv-loop μ-loop
-same-length-3 c = c .before .before .before .before .before .before .read-piece .kept .1 .0 ∙ c .before .before .before .before .before .before .before .before .before .before .before .before .before .before .loop .inv .taken .taken .markers-now ∙ sym (c .before .before .before .before .before .before .before .before .before .before .before .before .before .before .before .before .before .before .pre .0)
+same-length-2 : tie.Need-same-length-2 Inv-loop μ-loop
+same-length-2 c = c .before .before .loop .inv .0 .holds .taken .taken .pairs-now ∙ sym (c .before .before .before .before .before .before .before .pre .1)
 
-same-length-4 : tie.Need-same-length-4 Inv-loop μ-loop
-same-length-4 c = c .before .before .before .before .before .before .read-piece .kept .1 .1 .0 ∙ c .before .before .before .before .before .before .before .before .before .before .before .before .before .before .loop .inv .taken .taken .pairs-now ∙ sym (c .before .before .before .before .before .before .before .before .before .before .before .before .before .before .before .before .before .before .pre .1)
-
-returns-2 : tie.Need-returns-2 Inv-loop μ-loop
-returns-2 c =
-    let x = c .before .before .before .before .before .before .before .before .before .before .before .before .before .before .loop .inv in
-    let r = c .before .before .before .before .before .before .read-piece in
-    whole-read (x .bytes) _ _ _ (x .taken) (c .before .before .before .before .before .before .before .before .before .before .before .before .if1 .taken) _ _
-    (subst (λ (p : Piece). AfterRead (x .bytes) (c .before .before .before .before .before .before .before .before .before .before .before .before .before .before .loop .markers) (c .before .before .before .before .before .before .before .before .before .before .before .before .before .before .loop .pairs) p (r .last .1 .0) (r .last .1 .1 .0)) (c .enum-told .given .1) (r .ensures (x .bytes) (x .taken)))
-
-enum-told-2 : tie.Need-enum-told-2 Inv-loop μ-loop
-enum-told-2 c = search needs
-
-same-length-5 : tie.Need-same-length-5 Inv-loop μ-loop
-same-length-5 c = c .before .before .before .before .before .before .read-piece .kept .1 .0 ∙ c .before .before .before .before .before .before .before .before .before .before .before .before .before .before .loop .inv .taken .taken .markers-now ∙ sym (c .before .before .before .before .before .before .before .before .before .before .before .before .before .before .before .before .before .before .pre .0)
-
-same-length-6 : tie.Need-same-length-6 Inv-loop μ-loop
-same-length-6 c = c .before .before .before .before .before .before .read-piece .kept .1 .1 .0 ∙ c .before .before .before .before .before .before .before .before .before .before .before .before .before .before .loop .inv .taken .taken .pairs-now ∙ sym (c .before .before .before .before .before .before .before .before .before .before .before .before .before .before .before .before .before .before .pre .1)
-
-returns-3 : tie.Need-returns-3 Inv-loop μ-loop
-returns-3 c = tt
-
-same-length-7 : tie.Need-same-length-7 Inv-loop μ-loop
-same-length-7 c = c .before .before .loop .inv .taken .taken .markers-now ∙ sym (c .before .before .before .before .before .before .pre .0)
-
-same-length-8 : tie.Need-same-length-8 Inv-loop μ-loop
-same-length-8 c = c .before .before .loop .inv .taken .taken .pairs-now ∙ sym (c .before .before .before .before .before .before .pre .1)
-
-returns-4 : tie.Need-returns-4 Inv-loop μ-loop
-returns-4 c = let x = c .before .before .loop .inv in too-much-read (x .bytes) _ _ _ (x .taken) (c .if1 .left)
+returns : tie.Need-returns Inv-loop μ-loop
+returns c = read-all _ _ _ (c .before .before .loop .inv .0) (sym (c .before .is-reading .ensures) ∙ c .if1 .left)
 
 pub read-input-spec : {M : Type 1} → statement M
 read-input-spec =
@@ -95,24 +83,16 @@ read-input-spec =
     (tie.spec
     Inv-loop
     μ-loop
+    large-buffer-requires
     begin-requires
     loop-holds
-    is-decided-requires
-    same-length
-    same-length-2
-    returns
-    read-piece-requires
-    enum-known-piece
+    is-reading-requires
+    slice-aggregate-read
+    read-requires
+    slice-aggregate-take-read
+    take-read-requires
     loop-less
     loop-again
-    enum-told
-    same-length-3
-    same-length-4
-    returns-2
-    enum-told-2
-    same-length-5
-    same-length-6
-    returns-3
-    same-length-7
-    same-length-8
-    returns-4)
+    same-length
+    same-length-2
+    returns)

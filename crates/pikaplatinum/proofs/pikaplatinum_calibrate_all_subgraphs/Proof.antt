@@ -1,6 +1,7 @@
 -- `pikaplatinum::pikaplatinum_calibrate_all_subgraphs` meets its contract.
-use mathlib.Core.Path.{ap, _∙_}
+use mathlib.Core.Path.{ap, _∙_, subst}
 use Rattle.definition.specs.Call.{Result}
+use Rattle.claims.specs.CallByParts.{AnsweredByParts}
 use Rattle.pikaplatinum.specs.Reply.{replyTo}
 use borrow.Author.Needs.{needs}
 use Rattle.pikaplatinum.proofs.pikaplatinum_calibrate_all_subgraphs.Statement.{statement}
@@ -33,7 +34,7 @@ same-length-6 c = search needs
 returns : tie.Need-returns
 returns c =
     let k = c .before .before .before .before .before .before .before .before .before .before .before .before .before .calibrate-all-subgraphs .ensures in
-    record { reply = c .reply-of .ensures ∙ ap (λ (x : Result). replyTo (x .outcome)) k; lent = ap (λ (x : Result). x .lent) k }
+    (record { reply = c .reply-of .ensures ∙ ap (λ (x : Result). replyTo (x .outcome)) (k .0); lent = ap (λ (x : Result). x .lent) (k .0) }, subst (AnsweredByParts _ _ _ _ _) (k .0) (k .1))
 
 pub pikaplatinum-calibrate-all-subgraphs-spec : {M : Type 1} → statement M
 pikaplatinum-calibrate-all-subgraphs-spec =

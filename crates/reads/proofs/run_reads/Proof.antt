@@ -48,7 +48,7 @@ unfolding ofBits
 returns c =
     let b = c .before .before .before .before .before .before .before .before .before .before .before .before .before in
     let a = start b .args in
-    ran _ (a .grades) (a .evidence .now) (a .pairs .now) _ _ _ _ (start b .pre) (b .calibrate-all-subgraphs .result) _ (b .calibrate-all-subgraphs .ensures) _
+    ran _ (a .grades) (a .evidence .now) (a .pairs .now) _ _ _ _ (start b .pre) (b .calibrate-all-subgraphs .result) _ (b .calibrate-all-subgraphs .ensures .0) _
     (ap (λ (o : Outcome). countIn (outcomeOf o)) (c .before .outcome .given .1))
 
 same-length-5 : tie.Need-same-length-5
@@ -68,7 +68,7 @@ unfolding ofBits
 returns-2 c =
     let b = c .before .before .before .before .before .before .before .before .before .before .before .before in
     let a = start b .args in
-    ran _ (a .grades) (a .evidence .now) (a .pairs .now) _ _ _ _ (start b .pre) (b .calibrate-all-subgraphs .result) _ (b .calibrate-all-subgraphs .ensures) _
+    ran _ (a .grades) (a .evidence .now) (a .pairs .now) _ _ _ _ (start b .pre) (b .calibrate-all-subgraphs .result) _ (b .calibrate-all-subgraphs .ensures .0) _
     (ap (λ (o : Outcome). countIn (outcomeOf o)) (c .enum-told .given .1))
 
 pub run-reads-spec : {M : Type 1} → statement M

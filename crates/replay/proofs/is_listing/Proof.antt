@@ -1,10 +1,11 @@
 -- `is_listing` meets its contract.
 use native.Mathlib.Omega.{arith}
-use mathlib.Core.Path.{refl, sym, _∙_}
-use mathlib.Core.List.{[]}
+use mathlib.Core.Path.{refl, sym, ap, _∙_}
+use mathlib.Core.List.{List, []}
+use Prim.Native.Nat.{ℕ}
 use lib.Seq.{length-take-le}
 use Rattle.definition.specs.Listing.{listing}
-use Rattle.replay.specs.Same.{front-fits, front-is}
+use Rattle.replay.specs.Same.{sameBytes, front-fits, front-is}
 use borrow.Author.Needs.{needs}
 use Rattle.replay.proofs.is_listing.Statement.{statement}
 use Rattle.replay.proofs.is_listing.Tie as tie
@@ -59,7 +60,8 @@ returns : tie.Need-returns
 returns c =
     let t = c .before .before .before .before .before .before .before .before .before .before .take-piece .ensures [] (c .before .before .before .before .before .before .before .before .before .before .before .before .before .begin .ensures _ _ refl refl) in
     let r = c .before .before .before .list-bale in
-    λ e. sym (front-is (listing (c .before .before .before .before .before .before .before .before .before .before .before .before .before .before .before .before .args .file .now)) _ _ _ (r .ensures _ (t .taken))) ∙ c .is-same .ensures e
+    let f = c .before .before .before .before .before .before .before .before .before .before .before .before .before .before .before .before .args in
+    c .is-same .ensures ∙ ap (λ (l : List ℕ). sameBytes l (f .text .now)) (front-is (listing (f .file .now)) _ _ _ (r .ensures _ (t .taken)))
 
 pub is-listing-spec : {M : Type 1} → statement M
 is-listing-spec =

@@ -7,7 +7,7 @@ use Rattle.array_utils.proofs.table.log_table.Tie as tie
 
 table-entries-requires : tie.Need-table-entries-requires
 unfolding ruled logTableNumber
-table-entries-requires c κs = record { messageLength = refl; test = tt }
+table-entries-requires c κs = record { count = refl; test = tt }
 
 returns : tie.Need-returns
 returns c = c .table-entries .ensures

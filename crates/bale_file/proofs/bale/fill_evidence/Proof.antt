@@ -1,24 +1,34 @@
 -- `bale_file::bale::fill_evidence` meets its contract. The loop's invariant: the words before this one are laid.
-use Prim.Native.Nat.{_-_, _≤_}
+use Prim.Native.Nat.{ℕ, _-_, _*_, _≤_}
 use native.Mathlib.Omega.{arith}
-use mathlib.Core.Path.{_≡_, refl}
-use lib.ListN.{length, length-set}
+use mathlib.Core.Path.{_≡_, refl, ap, _∙_}
+use mathlib.Core.Logic.{⊎-elim}
+use lib.ListN.{length, length-set, take}
 use Rattle.definition.specs.BaleFile.{evidenceOf}
-use Rattle.bale_file.specs.Laid.{laid, laid-none, laid-next, laid-markers}
+use Rattle.definition.specs.Call.{overwrite}
+use Rattle.bale_file.specs.Laid.{inTwos, evidenceLaid, laid-next, laid-room, laid-words}
 use Rattle.bale_file.proofs.bale.fill_evidence.Statement.{statement}
 use Rattle.bale_file.proofs.bale.fill_evidence.Tie as tie
 
 abbrev Inv-loop : tie.InvT-loop
-Inv-loop words evidence₀ i₀ evidence i =
-    (i ≤ length words)
-    × (evidence ≡ laid (λ w. evidenceOf w .absent) (λ w. evidenceOf w .present) i words evidence₀)
+Inv-loop words evidence₀ room n i₀ evidence i =
+    (i ≤ n)
+    × (n ≤ length words)
+    × (2 * n ≤ length evidence₀)
+    × (overwrite (inTwos (λ w. evidenceOf w .absent) (λ w. evidenceOf w .present) (take n words)) evidence₀ ≡ evidenceLaid words evidence₀)
+    × (evidence ≡ overwrite (inTwos (λ w. evidenceOf w .absent) (λ w. evidenceOf w .present) (take i words)) evidence₀)
     × (length evidence ≡ length evidence₀)
 
 abbrev μ-loop : tie.MeasureT-loop
-μ-loop words evidence₀ i₀ evidence i = length words - i
+μ-loop words evidence₀ room n i₀ evidence i = n - i
 
 loop-holds : tie.Need-loop-holds Inv-loop μ-loop
-loop-holds c = (omega arith, laid-none _ _ _ _, refl)
+loop-holds c =
+    let a = c .before .before .before .args in
+    ⊎-elim
+    (λ w. (omega arith, omega arith, omega arith, laid-words _ _ (c .if1 .n) (a .words .now) (a .evidence .now) (omega arith) (omega arith), refl, refl))
+    (λ w. (omega arith, omega arith, omega arith, laid-room _ _ (c .if1 .n) (a .words .now) (a .evidence .now) (omega arith), refl, refl))
+    (c .if1 .came)
 
 mul-word : tie.Need-mul-word Inv-loop μ-loop
 mul-word c = omega arith
@@ -62,18 +72,19 @@ loop-less c = omega arith
 loop-again : tie.Need-loop-again Inv-loop μ-loop
 loop-again c =
     let s = c .before .before .before .before .loop in
-    let a = c .before .before .before .before .before .before .before in
-    (omega arith, laid-next _ _ (s .i) (a .args .words .now) (a .args .evidence .now) _ _ _ (omega arith) (a .pre) (s .inv .1) (c .before .absent .ensures) (c .present .ensures), simp length-set (s .inv .2))
+    let a = c .before .before .before .before .before .before .before .before in
+    let e = laid-next _ _ (s .i) (a .args .words .now) (a .args .evidence .now) _ _ _ (omega arith) (omega arith) (s .inv .4) (c .before .absent .ensures) (c .present .ensures) in
+    (omega arith, s .inv .1, s .inv .2, s .inv .3, e, simp length-set (s .inv .5))
 
 same-length : tie.Need-same-length Inv-loop μ-loop
-same-length c = c .before .loop .inv .2
+same-length c = c .before .loop .inv .5
 
 returns : tie.Need-returns Inv-loop μ-loop
 returns c =
     let s = c .before .loop in
-    let a = c .before .before .before .before in
-    let e : s .i ≡ length (a .args .words .now) = omega arith in
-    rw (s .inv .1, e) (laid-markers (a .args .words .now) (a .args .evidence .now) (a .pre))
+    let a = c .before .before .before .before .before .args in
+    let e : s .i ≡ c .before .before .if1 .n = omega arith in
+    s .inv .4 ∙ ap (λ (k : ℕ). overwrite (inTwos (λ w. evidenceOf w .absent) (λ w. evidenceOf w .present) (take k (a .words .now))) (a .evidence .now)) e ∙ s .inv .3
 
 pub fill-evidence-spec : {M : Type 1} → statement M
 fill-evidence-spec =

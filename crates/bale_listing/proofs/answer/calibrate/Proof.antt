@@ -45,7 +45,7 @@ returns c =
     let a = c .before .before .before .before .before .before .before .before .before .before .before .before .before .before .before .before .before .before .before .before .before .before .before .before .before .before .before .args in
     called _ _ (a .grades) (a .evidence .now) (a .pairs .now) _ _ _
     (settings-are (a .rates) (a .prior) _ _ _ _ (c .before .before .before .before .before .before .before .before .before .before .before .before .before .before .before .before .before .before .before .before .alpha .ensures) (c .before .before .before .before .before .before .before .before .before .before .before .before .before .before .before .before .before .before .before .beta .ensures) (c .before .before .before .before .before .before .before .before .before .before .before .before .before .before .before .before .before .before .beta2 .ensures) (c .before .before .before .before .before .before .before .before .before .before .before .before .before .before .before .before .before .is-regularised .ensures))
-    (c .before .before .before .before .before .before .before .before .before .before .calibrate-all-subgraphs .ensures) refl refl
+    (c .before .before .before .before .before .before .before .before .before .before .calibrate-all-subgraphs .ensures .0) refl refl
 
 pub calibrate-spec : {M : Type 1} → statement M
 calibrate-spec =

@@ -40,7 +40,7 @@ enum-known-v c = search needs
 
 returns : tie.Need-returns
 returns c =
-    rw (ap verdictOf (c .before .v .given .1)) (refl, refl, refl)
+    rw (ap verdictOf (c .before .v .given .1)) (refl, refl, refl, refl, refl)
 
 enum-told : tie.Need-enum-told
 enum-told c = search needs
@@ -74,7 +74,7 @@ same-length c = search needs
 
 returns-2 : tie.Need-returns-2
 returns-2 c =
-    rw (ap verdictOf (c .before .before .before .before .before .before .enum-told .given .1)) (refl, left (c .before .before .before .before))
+    rw (ap verdictOf (c .before .before .before .before .before .before .enum-told .given .1)) (refl, refl, left (c .before .before .before .before))
 
 pub cut-judged-spec : {M : Type 1} → statement M
 cut-judged-spec =

@@ -6,7 +6,8 @@ use Rattle.definition.specs.Run.{Ending, limit, settled, empty}
 use Rattle.definition.specs.Text.{ascii}
 use Rattle.definition.specs.Listing.{decimal, partFields}
 use Rattle.listing.specs.Writing.{Fields, all-fields, next-field, last-field, left-last, field-fits}
-use Rattle.listing.specs.Lines.{endingOf, headLine, ending-empty, before-ending}
+use Rattle.claims.specs.CallByParts.{endingOf}
+use Rattle.listing.specs.Lines.{headLine, ending-empty, before-ending}
 use borrow.Author.Needs.{needs}
 use Rattle.listing.proofs.lines.put_ending.Statement.{statement}
 use Rattle.listing.proofs.lines.put_ending.Tie as tie

@@ -10,9 +10,6 @@ use Rattle.opening.specs.OpenRows.{MessageRow, SomeMessageRow, offsets-l
 use Rattle.opening.specs.OpenSends.{InitialTo, initial-none, filled-long, initial-turn, initial-all}
 use Rattle.opening.proofs.initialize.fill_initial.Statement.{statement}
 use Rattle.opening.proofs.initialize.fill_initial.Tie as tie
-use Rattle.opening.proofs.initialize.fill_with.Reads as fill-with-reads
-use Rattle.opening.proofs.initialize.initial_entry.Reads as initial-entry-reads
-use Rattle.opening.proofs.initialize.word.Reads as word-reads
 
 abbrev Inv-loop : tie.InvT-loop
 Inv-loop row₀ offsets last d₀ row d =

@@ -11,8 +11,6 @@ use Rattle.opening.specs.OpenRows.{SendRows, node-room}
 use Rattle.opening.specs.OpenSends.{sames, sent-start, same-next, same-sends, sent-all}
 use Rattle.opening.proofs.initialize.send_same.Statement.{statement}
 use Rattle.opening.proofs.initialize.send_same.Tie as tie
-use Rattle.opening.proofs.initialize.put_message.Reads as put-message-reads
-use Rattle.opening.proofs.initialize.word.Reads as word-reads
 
 abbrev Inv-loop : tie.InvT-loop
 Inv-loop row₀ firsts outs offsets n message end k₀ row k =

@@ -6,7 +6,7 @@ use lib.ListN.{length}
 use Rattle.definition.specs.Settings.{Settings}
 use Rattle.definition.specs.Directions.{MessageGraph}
 use Rattle.definition.specs.Sweeps.{Store}
-use Rattle.zero_lookahead.specs.Part.{Given, Stands, KeptFront}
+use Rattle.zero_lookahead.specs.Part.{Given, StandsFor, KeptFront}
 use Rattle.part.specs.RunSweeps.{swept, swept-none, swept-next}
 use Rattle.part.proofs.run.five_sweeps.Statement.{statement}
 use Rattle.part.proofs.run.five_sweeps.Tie as tie
@@ -17,7 +17,7 @@ Inv-loop table w₀ words₀ out evidence settings k₀ w words k =
     × (length w ≡ length w₀)
     × (length words ≡ length words₀)
     × KeptFront out words₀ words
-    × ((s : Settings) (t : MessageGraph) (x : Store) → Stands s t out evidence x words₀ w₀ → Given s settings → Stands s t out evidence (swept s t k x) words w)
+    × ((s : Settings) (t : MessageGraph) (x : Store) → StandsFor s t out evidence x words₀ w₀ → Given s settings → StandsFor s t out evidence (swept s t k x) words w)
 
 abbrev μ-loop : tie.MeasureT-loop
 μ-loop table w₀ words₀ out evidence settings k₀ w words k = 5 - k

@@ -12,7 +12,7 @@ use Rattle.definition.specs.Priorities.{Highest}
 use Rattle.definition.specs.Run.{State}
 use Rattle.priorities.specs.Answer.{highestOf}
 use Rattle.steps.specs.StepChanged.{changedFrom}
-use Rattle.steps.specs.StepLog.{Within}
+use Rattle.steps.specs.StepLog.{ChangedBelow}
 use Rattle.zero_lookahead.specs.Part.{Given, Runs, KeptFront}
 use Rattle.part.specs.RunQueue.{runs-queue}
 use Rattle.part.specs.RunSteps.{AtStart, Stepped, stepped-none, ends-limit, ends-settled, ends-empty, direction-there, stepped-next}
@@ -25,7 +25,7 @@ Inv-loop table w₀ words₀ out evidence settings limit tolerance steps₀ last
     × (length w ≡ length w₀)
     × (length words ≡ length words₀)
     × KeptFront out words₀ words
-    × Within (changedFrom changed) (getD words 0 0 + 1)
+    × ChangedBelow (changedFrom changed) (getD words 0 0 + 1)
     × ((s : Settings) (t : MessageGraph) (x : State) → Runs s t out evidence x words₀ w₀ → Given s settings → AtStart t x → Stepped s t out evidence limit x steps last changed words w)
 
 abbrev μ-loop : tie.MeasureT-loop

@@ -4,9 +4,9 @@ use Rattle.patterns.specs.Pattern.{patternBale, reads-many}
 use Rattle.reads.specs.Put.{readFloats}
 use Rattle.reads.specs.Reported.{reportLentWith}
 use Rattle.pattern_laws.specs.Numbers.{patternAt}
-use Rattle.checks.specs.Verdicts.{settingsOf, verdictOf}
+use Rattle.checks.specs.Verdicts.{verdictOf}
 use Rattle.checks.specs.declared.Verdict.{Verdict}
-use Rattle.definition.specs.Settings.{Settings}
+use Rattle.definition.specs.Settings.{Settings, settingsOf}
 use Rattle.definition.specs.Report.{ReportLent, reportSizes}
 use Rattle.definition.specs.Patterns.{patternVerdict}
 use lib.ListN.{length}

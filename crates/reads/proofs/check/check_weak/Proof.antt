@@ -1,8 +1,9 @@
 -- `check::check_weak` meets its contract.
 use Rattle.reads.specs.Put.{weak-front}
 use Rattle.reads.specs.Ran.{settingsIn}
-use Rattle.reads.specs.Checked.{reportBuffersIn, buffersFor, checked}
+use Rattle.reads.specs.Checked.{reportBuffersIn, withFloats, checked}
 use Rattle.definition.specs.Refusals.{baleOf, verdict}
+use Rattle.definition.specs.Report.{ampleFor}
 use lib.ListN.{take}
 use mathlib.Core.Path.{_≡_, _∙_}
 use Prim.Native.Nat.{_-_, _*_}
@@ -45,6 +46,7 @@ check-requires : tie.Need-check-requires
 check-requires c κs = search needs
 
 returns : tie.Need-returns
+unfolding ampleFor baleOf
 returns c es e =
     let b = c .before .before .before .before .before .before .before .before .before in
     let m = b .args .markers in
@@ -54,7 +56,7 @@ returns c es e =
     let front = (λ i. take (n i) (c .before .before .before .before .before .put-reads .ensures i)) ∙ weak-front _ m 1024 (b .pre) in
     c .check .ensures
     ∙ (λ i.
-    verdict s (buffersFor (c .before .before .before .floats-for .ensures i) (f .workNumbers) (b .args .grades))
+    verdict s (ampleFor (withFloats f (c .before .before .before .floats-for .ensures i)) (baleOf (b .args .grades) es (b .args .pairs .now)))
     (baleOf (b .args .grades) (front i) (b .args .pairs .now)))
     ∙ checked (b .args .grades) (b .args .pairs .now) es m e s f (b .args .needed)
 

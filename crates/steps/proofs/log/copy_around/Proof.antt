@@ -10,9 +10,6 @@ use Rattle.messages.specs.LayoutCopy.{copied}
 use Rattle.steps.specs.StepLog.{Words, node-in, node-long, neighbour-in, around-none, around-step, around-all}
 use Rattle.steps.proofs.log.copy_around.Statement.{statement}
 use Rattle.steps.proofs.log.copy_around.Tie as tie
-use Rattle.steps.proofs.log.copy_around.Reads as reads
-use Rattle.steps.proofs.log.copy_around.Lts as lts
-use Rattle.steps.proofs.log.copy_node.Reads as copy-node-reads
 
 abbrev Inv-loop : tie.InvT-loop
 Inv-loop w₀ firsts starts offsets from to n first count i₀ w i =

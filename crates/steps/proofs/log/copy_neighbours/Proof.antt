@@ -5,10 +5,6 @@ use Rattle.steps.specs.StepLog.{aroundCopied, new-apart, taken-around}
 use borrow.Author.Needs.{needs}
 use Rattle.steps.proofs.log.copy_neighbours.Statement.{statement}
 use Rattle.steps.proofs.log.copy_neighbours.Tie as tie
-use Rattle.steps.proofs.log.copy_neighbours.Reads as reads
-use Rattle.steps.proofs.log.copy_neighbours.Lts as lts
-use Rattle.steps.proofs.log.copy_around.Reads as copy-around-reads
-use Rattle.steps.proofs.log.row_len.Reads as row-len-reads
 
 -- src/log.rt:108:45
 row-len-requires : tie.Need-row-len-requires

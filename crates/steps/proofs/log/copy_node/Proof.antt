@@ -4,9 +4,6 @@ use Rattle.steps.specs.StepLog.{node-apart}
 use borrow.Author.Needs.{needs}
 use Rattle.steps.proofs.log.copy_node.Statement.{statement}
 use Rattle.steps.proofs.log.copy_node.Tie as tie
-use Rattle.steps.proofs.log.copy_node.Reads as reads
-use Rattle.steps.proofs.log.copy_node.Lts as lts
-use Rattle.steps.proofs.log.copy_range.Reads as copy-range-reads
 
 -- src/log.rt:28:25
 mul-begin : tie.Need-mul-begin

@@ -9,9 +9,6 @@ use Rattle.steps.specs.StepLog.{residual-along}
 use borrow.Author.Needs.{needs}
 use Rattle.steps.proofs.log.residual_at.Statement.{statement}
 use Rattle.steps.proofs.log.residual_at.Tie as tie
-use Rattle.steps.proofs.log.residual_at.Reads as reads
-use Rattle.steps.proofs.log.residual_at.Lts as lts
-use Rattle.steps.proofs.log.row_len.Reads as row-len-reads
 
 -- src/log.rt:117:19
 row-len-requires : tie.Need-row-len-requires

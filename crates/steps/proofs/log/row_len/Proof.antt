@@ -5,8 +5,6 @@ use lib.ListN.{length}
 use borrow.Author.Needs.{needs}
 use Rattle.steps.proofs.log.row_len.Statement.{statement}
 use Rattle.steps.proofs.log.row_len.Tie as tie
-use Rattle.steps.proofs.log.row_len.Reads as reads
-use Rattle.steps.proofs.log.row_len.Lts as lts
 
 -- src/log.rt:75:13
 sub-result : tie.Need-sub-result

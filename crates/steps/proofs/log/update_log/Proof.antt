@@ -8,16 +8,10 @@ use Rattle.list_laws.specs.Put.{put}
 use Rattle.steps.specs.declared.log.Changed.{Changed}
 use Rattle.messages.specs.State.{partFloats}
 use Rattle.steps.specs.StepChanged.{changedFrom}
-use Rattle.steps.specs.StepLog.{aroundCopied, Within, logged, node-in, part-long, log-apart, log-all, log-one, log-around}
+use Rattle.steps.specs.StepLog.{aroundCopied, ChangedBelow, logged, node-in, part-long, log-apart, log-all, log-one, log-around}
 use borrow.Author.Needs.{needs}
 use Rattle.steps.proofs.log.update_log.Statement.{statement}
 use Rattle.steps.proofs.log.update_log.Tie as tie
-use Rattle.steps.proofs.log.update_log.Reads as reads
-use Rattle.steps.proofs.log.update_log.Lts as lts
-use Rattle.steps.proofs.log.copy_around.Reads as copy-around-reads
-use Rattle.steps.proofs.log.copy_node.Reads as copy-node-reads
-use Rattle.steps.proofs.log.copy_range.Reads as copy-range-reads
-use Rattle.steps.proofs.log.row_len.Reads as row-len-reads
 
 -- src/log.rt:89:9
 row-len-requires : tie.Need-row-len-requires
@@ -62,7 +56,7 @@ copy-node-requires c κs =
     let b = c .before .before .before .before .before .before .before .before .before in
     let a = b .args in
     let k = c .before .before .changed in
-    (node-in (a .firsts .now) (a .starts .now) (a .offsets .now) (b .pre .0 .words) (k .given .0 .0) (subst (λ (x : Changed). Within (changedFrom x) (length (a .firsts .now))) (k .given .1) (b .pre .1)), rw (c .before .before .before .before .row-len .ensures) (log-apart (a .firsts .now) (a .starts .now) (a .offsets .now) (a .w .now) (b .pre .0)))
+    (node-in (a .firsts .now) (a .starts .now) (a .offsets .now) (b .pre .0 .words) (k .given .0 .0) (subst (λ (x : Changed). ChangedBelow (changedFrom x) (length (a .firsts .now))) (k .given .1) (b .pre .1)), rw (c .before .before .before .before .row-len .ensures) (log-apart (a .firsts .now) (a .starts .now) (a .offsets .now) (a .w .now) (b .pre .0)))
 
 -- src/log.rt:93:25
 enum-known-changed-2 : tie.Need-enum-known-changed-2
@@ -85,7 +79,7 @@ copy-around-requires c κs =
     let b = c .before .before .before .before .before .before .before .before .before in
     let a = b .args in
     let k = c .before .before .changed2 in
-    ((b .pre .0 .words, subst (λ (x : Changed). Within (changedFrom x) (length (a .firsts .now))) (k .given .1) (b .pre .1)), rw (c .before .before .before .before .row-len .ensures) (log-apart (a .firsts .now) (a .starts .now) (a .offsets .now) (a .w .now) (b .pre .0)))
+    ((b .pre .0 .words, subst (λ (x : Changed). ChangedBelow (changedFrom x) (length (a .firsts .now))) (k .given .1) (b .pre .1)), rw (c .before .before .before .before .row-len .ensures) (log-apart (a .firsts .now) (a .starts .now) (a .offsets .now) (a .w .now) (b .pre .0)))
 
 -- src/log.rt:79:1
 same-length : tie.Need-same-length
@@ -118,7 +112,7 @@ returns-2 c =
     λ p.
     c .before .before .copy-node .ensures
     ∙ ap (λ (n : ℕ). put (a .w .now) (2 * n + o) (region (a .w .now) (0 + o) s)) (c .before .before .before .before .before .before .before .row-len .ensures)
-    ∙ log-one (a .firsts .now) (a .starts .now) (a .offsets .now) (a .w .now) p m (subst (λ (x : Changed). Within (changedFrom x) (length (a .firsts .now))) (k .given .1) (b .pre .1))
+    ∙ log-one (a .firsts .now) (a .starts .now) (a .offsets .now) (a .w .now) p m (subst (λ (x : Changed). ChangedBelow (changedFrom x) (length (a .firsts .now))) (k .given .1) (b .pre .1))
     ∙ ap (λ (x : Changed). partFloats (p .rIn) (p .rNew) (logged (p .words .graph) (changedFrom x) (p .rIn) (p .rLog)) (p .rBuild) (p .pending) (p .rest)) (sym (k .given .1))
 
 -- src/log.rt:79:1

@@ -9,10 +9,6 @@ use Rattle.steps.specs.StepPending.{OneKept, waiting-after, one-kept, su
 use borrow.Author.Needs.{needs}
 use Rattle.steps.proofs.pending.add_to_pending.Statement.{statement}
 use Rattle.steps.proofs.pending.add_to_pending.Tie as tie
-use Rattle.steps.proofs.pending.add_to_pending.Reads as reads
-use Rattle.steps.proofs.pending.add_to_pending.Lts as lts
-use Rattle.priorities.proofs.key_of.Reads as key-of-reads
-use Rattle.priorities.proofs.set.Reads as set-reads
 
 -- src/pending.rt:38:15
 mul-sum : tie.Need-mul-sum

@@ -8,9 +8,6 @@ use Rattle.steps.specs.StepPending.{waiting-after, one-kept}
 use borrow.Author.Needs.{needs}
 use Rattle.steps.proofs.pending.clear_pending.Statement.{statement}
 use Rattle.steps.proofs.pending.clear_pending.Tie as tie
-use Rattle.steps.proofs.pending.clear_pending.Reads as reads
-use Rattle.steps.proofs.pending.clear_pending.Lts as lts
-use Rattle.priorities.proofs.set.Reads as set-reads
 
 -- src/pending.rt:26:5
 mul-pending : tie.Need-mul-pending

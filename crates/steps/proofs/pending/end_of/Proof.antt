@@ -4,8 +4,6 @@ use lib.ListN.{getD}
 use borrow.Author.Needs.{needs}
 use Rattle.steps.proofs.pending.end_of.Statement.{statement}
 use Rattle.steps.proofs.pending.end_of.Tie as tie
-use Rattle.steps.proofs.pending.end_of.Reads as reads
-use Rattle.steps.proofs.pending.end_of.Lts as lts
 
 -- src/pending.rt:74:12
 mul-result : tie.Need-mul-result

@@ -8,10 +8,6 @@ use Rattle.steps.specs.StepSingle.{along-apart, keep-both}
 use borrow.Author.Needs.{needs}
 use Rattle.steps.proofs.single.keep_message.Statement.{statement}
 use Rattle.steps.proofs.single.keep_message.Tie as tie
-use Rattle.steps.proofs.single.keep_message.Reads as reads
-use Rattle.steps.proofs.single.keep_message.Lts as lts
-use Rattle.steps.proofs.log.copy_range.Reads as copy-range-reads
-use Rattle.steps.proofs.log.row_len.Reads as row-len-reads
 
 -- src/single.rt:66:14
 mul-at : tie.Need-mul-at

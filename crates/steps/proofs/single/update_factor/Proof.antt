@@ -14,11 +14,6 @@ use Rattle.steps.specs.StepSingle.{along-apart, computed-both}
 use borrow.Author.Needs.{needs}
 use Rattle.steps.proofs.single.update_factor.Statement.{statement}
 use Rattle.steps.proofs.single.update_factor.Tie as tie
-use Rattle.steps.proofs.single.update_factor.Reads as reads
-use Rattle.steps.proofs.single.update_factor.Lts as lts
-use Rattle.steps.proofs.log.copy_range.Reads as copy-range-reads
-use Rattle.steps.proofs.log.row_len.Reads as row-len-reads
-use Rattle.steps.proofs.single.factor_message.Reads as factor-message-reads
 
 -- src/single.rt:102:16
 mul-from : tie.Need-mul-from

@@ -7,12 +7,6 @@ use Rattle.steps.specs.StepUpdate.{single-along, single-holder, single-v
 use borrow.Author.Needs.{needs}
 use Rattle.steps.proofs.single.update_single.Statement.{statement}
 use Rattle.steps.proofs.single.update_single.Tie as tie
-use Rattle.steps.proofs.single.update_single.Reads as reads
-use Rattle.steps.proofs.single.update_single.Lts as lts
-use Rattle.steps.proofs.pending.end_of.Reads as end-of-reads
-use Rattle.steps.proofs.single.keep_message.Reads as keep-message-reads
-use Rattle.steps.proofs.single.update_factor.Reads as update-factor-reads
-use Rattle.steps.proofs.single.update_variable.Reads as update-variable-reads
 
 -- src/single.rt:145:13
 mul-n : tie.Need-mul-n

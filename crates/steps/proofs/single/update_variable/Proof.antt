@@ -4,9 +4,6 @@ use Rattle.steps.specs.StepSingle.{both}
 use borrow.Author.Needs.{needs}
 use Rattle.steps.proofs.single.update_variable.Statement.{statement}
 use Rattle.steps.proofs.single.update_variable.Tie as tie
-use Rattle.steps.proofs.single.update_variable.Reads as reads
-use Rattle.steps.proofs.single.update_variable.Lts as lts
-use Rattle.steps.proofs.single.write_both.Reads as write-both-reads
 
 -- src/single.rt:55:25
 mul-begin : tie.Need-mul-begin

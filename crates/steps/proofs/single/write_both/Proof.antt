@@ -9,10 +9,6 @@ use Rattle.list_laws.specs.Put.{put}
 use borrow.Author.Needs.{needs}
 use Rattle.steps.proofs.single.write_both.Statement.{statement}
 use Rattle.steps.proofs.single.write_both.Tie as tie
-use Rattle.steps.proofs.single.write_both.Reads as reads
-use Rattle.steps.proofs.single.write_both.Lts as lts
-use Rattle.steps.proofs.log.row_len.Reads as row-len-reads
-use Rattle.steps.proofs.single.write_pair.Reads as write-pair-reads
 
 -- src/single.rt:34:14
 mul-at : tie.Need-mul-at

@@ -5,8 +5,6 @@ use Rattle.steps.specs.StepSingle.{two-put}
 use borrow.Author.Needs.{needs}
 use Rattle.steps.proofs.single.write_pair.Statement.{statement}
 use Rattle.steps.proofs.single.write_pair.Tie as tie
-use Rattle.steps.proofs.single.write_pair.Reads as reads
-use Rattle.steps.proofs.single.write_pair.Lts as lts
 
 -- src/single.rt:26:5
 mul-w : tie.Need-mul-w

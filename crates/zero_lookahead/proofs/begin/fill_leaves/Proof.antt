@@ -9,7 +9,7 @@ use Rattle.definition.specs.Settings.{Settings}
 use Rattle.definition.specs.Directions.{MessageGraph}
 use Rattle.definition.specs.Sweeps.{Store}
 use Rattle.list_laws.specs.Write.{write, write-none, write-next}
-use Rattle.zero_lookahead.specs.Part.{Given, Stands}
+use Rattle.zero_lookahead.specs.Part.{Given, StandsFor}
 use Rattle.zero_lookahead.specs.BeginKeys.{leafKey}
 use Rattle.zero_lookahead.specs.Begin.{written-stands}
 use Rattle.zero_lookahead.proofs.begin.fill_leaves.Statement.{statement}
@@ -19,7 +19,7 @@ abbrev Inv-loop : tie.InvT-loop
 Inv-loop table w words₀ out settings at leaves d₀ words d =
     (d ≤ leaves)
     × (length words ≡ length words₀)
-    × ((s : Settings) (t : MessageGraph) (evidence : List Float) (x : Store) → Stands s t out evidence x words₀ w → Given s settings → words ≡ write words₀ at d (leafKey s t x))
+    × ((s : Settings) (t : MessageGraph) (evidence : List Float) (x : Store) → StandsFor s t out evidence x words₀ w → Given s settings → words ≡ write words₀ at d (leafKey s t x))
 
 abbrev μ-loop : tie.MeasureT-loop
 μ-loop table w words₀ out settings at leaves d₀ words d = leaves - d

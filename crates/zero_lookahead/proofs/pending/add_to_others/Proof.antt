@@ -7,7 +7,7 @@ use mathlib.Core.Option.{some}
 use lib.ListN.{length, getD, set}
 use Rattle.definition.specs.Floats.{_⊕_, zeroᶠ}
 use Rattle.definition.specs.Run.{addPending}
-use Rattle.graph_laws.specs.MessageCounts.{length-addTo}
+use Rattle.graph_laws.specs.MessageCounts.{length-addPending}
 use Rattle.list_laws.specs.Part.{region}
 use Rattle.messages.specs.LayoutWords.{othersTo}
 use Rattle.messages.specs.LayoutPending.{pending-none, pending-pass, pending-step}
@@ -62,7 +62,7 @@ add-at-requires c κs =
     let os = region (a .words .now) (a .outs) n in
     let O = b .pre .1 .0 .others in
     let e = other-read (a .queue) (a .leaves) (a .words .now) (b .pre .0 .room) (a .outs) (a .from) (a .to) (a .d) n (b .pre .1 .0) (l .words) (l .inv .3) (l .k) (omega arith) (c .before .before .word .result) (c .before .before .word .ensures .0) in
-    let z = ap length (l .inv .4) ∙ length-addTo (a .r) (othersTo os (a .from) (a .d) (l .k)) (a .pending .now) in
+    let z = ap length (l .inv .4) ∙ length-addPending (a .r) (othersTo os (a .from) (a .d) (l .k)) (a .pending .now) in
     (l .inv .2, (omega (arith, e, O .there (l .k) (omega (arith, O .within)), z), b .pre .1 .1))
 
 add-k : tie.Need-add-k Inv-loop μ-loop
@@ -112,7 +112,7 @@ same-length : tie.Need-same-length Inv-loop μ-loop
 same-length c =
     let l = c .before .loop in
     let a = c .before .before .before .before .args in
-    ap length (l .inv .4) ∙ length-addTo (a .r) (othersTo (region (a .words .now) (a .outs) (length (a .pending .now))) (a .from) (a .d) (l .k)) (a .pending .now)
+    ap length (l .inv .4) ∙ length-addPending (a .r) (othersTo (region (a .words .now) (a .outs) (length (a .pending .now))) (a .from) (a .d) (l .k)) (a .pending .now)
 
 same-length-2 : tie.Need-same-length-2 Inv-loop μ-loop
 same-length-2 c = c .before .loop .inv .3 .long

@@ -3,7 +3,7 @@ use Prim.Native.Nat.{ℕ, _+_}
 use mathlib.Core.Path.{_∙_, subst}
 use Rattle.messages.specs.State.{changedOf}
 use Rattle.steps.specs.StepChanged.{changedFrom}
-use Rattle.steps.specs.StepLog.{Within}
+use Rattle.steps.specs.StepLog.{ChangedBelow}
 use Rattle.zero_lookahead.specs.Part.{queueRow}
 use Rattle.zero_lookahead.specs.Step.{running-with, running-adding, added-front, added-nodes, running-all}
 use Rattle.zero_lookahead.specs.StepStands.{loggedStore, residual-sign}
@@ -50,7 +50,7 @@ returns c =
     let U = (c .before .before .before .before .before .before .before .before .before .before .before .update-message .ensures .1 (Y .settings) (Y .graph) (loggedStore (Y .graph) (changedOf (Y .graph) (changedFrom (a .changed))) (Y .state .store)) (Y .state .pending) (queueRow (a .words .now) (a .out)) (c .before .before .before .before .before .before .before .before .before .before .before .before .before .before .before .before .log-changed .ensures (Y .settings) (Y .graph) (a .evidence .now) (Y .state .store) (Y .state .pending) (queueRow (a .words .now) (a .out)) (running-with (Y .settings) (Y .graph) (a .out) (a .evidence .now) (Y .state) (a .words .now) (a .w .now) (Y .runs))) (Y .given)) in
     let front = added-front (Y .settings) (Y .graph) (a .out) (a .evidence .now) (Y .state) (a .words .now) (a .w .now) (Y .runs) (a .d) (b .pre .1 .1 .0) _ (u .last .1 .1 .0) (u .last .1 .0) (U .stands) (r .result) (z .last .1 .0) (z .last .0) (z .ensures) in
     let nodes = added-nodes (Y .settings) (Y .graph) (a .out) (a .evidence .now) (Y .state) (a .words .now) (a .w .now) (Y .runs) (a .d) (b .pre .1 .1 .0) _ (u .last .1 .1 .0) (u .last .1 .0) (U .stands) (r .result) (z .last .1 .0) (z .last .0) (z .ensures) in (
-      (front ∙ u .ensures .0 .0, subst (λ (n : ℕ). Within (changedFrom (u .result)) (n + 1)) nodes (u .ensures .0 .1)),
+      (front ∙ u .ensures .0 .0, subst (λ (n : ℕ). ChangedBelow (changedFrom (u .result)) (n + 1)) nodes (u .ensures .0 .1)),
       λ s t x h R G e f.
           running-all s t (a .out) (a .evidence .now) x (a .words .now) (a .w .now) R (a .d) (b .pre .1 .1 .0) (changedFrom (a .changed)) f (r .result) (r .ensures s t (a .evidence .now) (x .store) (R .stands)) (u .last .1 .1 .0) (u .last .1 .0) (changedFrom (u .result))
           (u .ensures .1 s t (loggedStore t (changedOf t (changedFrom (a .changed))) (x .store)) (x .pending) (queueRow (a .words .now) (a .out))

@@ -7,7 +7,7 @@ use lib.ListN.{length, getD, length-set}
 use Rattle.definition.specs.Settings as definition
 use Rattle.definition.specs.Directions.{MessageGraph}
 use Rattle.definition.specs.Sweeps.{Store}
-use Rattle.zero_lookahead.specs.Part.{rowsEnd, Given, Stands, KeptFront}
+use Rattle.zero_lookahead.specs.Part.{rowsEnd, Given, StandsFor, KeptFront}
 use Rattle.zero_lookahead.specs.SweepSend.{record-fits}
 use Rattle.zero_lookahead.specs.SweepLoop.{Swept, swept-none, some-node, node-rows, swept-anew, front-anew, swept-kept}
 use Rattle.zero_lookahead.proofs.sweep.send_nodes.Statement.{statement}
@@ -19,7 +19,7 @@ Inv-loop table w₀ words₀ out evidence settings nodes edges flags n₀ w word
     × (length w ≡ length w₀)
     × (length words ≡ length words₀)
     × KeptFront out words₀ words
-    × ((s : definition.Settings) (t : MessageGraph) (x : Store) → Stands s t out evidence x words₀ w₀ → Given s settings → Swept s t out evidence x n words w)
+    × ((s : definition.Settings) (t : MessageGraph) (x : Store) → StandsFor s t out evidence x words₀ w₀ → Given s settings → Swept s t out evidence x n words w)
 
 abbrev μ-loop : tie.MeasureT-loop
 μ-loop table w₀ words₀ out evidence settings nodes edges flags n₀ w words n = nodes - n

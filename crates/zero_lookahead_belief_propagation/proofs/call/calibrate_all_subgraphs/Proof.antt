@@ -3,9 +3,11 @@ use native.Mathlib.Omega.{arith}
 use mathlib.Core.Path.{_≡_, sym, ap, _∙_}
 use Rattle.definition.specs.Refusals.{baleOf, accepted, verdict}
 use Rattle.definition.specs.Call.{sizesOf}
+use Rattle.definition.specs.Settings.{settingsOf}
 use Rattle.graph_laws.specs.CallLengths.{call-refused}
-use Rattle.checks.specs.Verdicts.{settingsOf, verdictOf}
-use Rattle.zero_lookahead_belief_propagation.specs.Called.{lentWith, call-counted, floats-in, numbers-in, call-asks, counts-small, call-answered}
+use Rattle.claims.specs.Parts.{Binary32}
+use Rattle.checks.specs.Verdicts.{verdictOf}
+use Rattle.zero_lookahead_belief_propagation.specs.Called.{lentWith, all-fit, by-parts, call-counted, floats-in, numbers-in, call-asks, counts-small, call-answered}
 use borrow.Author.Needs.{needs}
 use Rattle.zero_lookahead_belief_propagation.proofs.call.calibrate_all_subgraphs.Statement.{statement}
 use Rattle.zero_lookahead_belief_propagation.proofs.call.calibrate_all_subgraphs.Tie as tie
@@ -18,6 +20,13 @@ passed :
 unfolding sizesOf
 passed c = sym (c .before .before .judge .ensures) ∙ ap verdictOf (c .enum-told .given .1)
 
+-- what owning the floats tells: binary32 has each of them
+held :
+    (c : tie.After-shared-slice-known) →
+    let a = c .before .args in
+    Binary32 (settingsOf (a .alpha) (a .beta) (a .prior) (a .regularised) (a .tolerance) (a .loop-limit)) (baleOf (a .grades) (a .evidence .now) (a .pairs .now))
+held c = let g = c .before .good in all-fit _ _ _ _ (g .0 .1) (g .1 .0 .1) (g .1 .1 .0 .1) (c .shared-slice-known .given)
+
 judge-requires : tie.Need-judge-requires
 judge-requires c κs = search needs
 
@@ -28,7 +37,8 @@ returns : tie.Need-returns
 unfolding sizesOf
 returns c =
     let a = c .before .before .before .before .before .before .before .before .before .before .before .before .args in
-    sym (call-refused (settingsOf (a .alpha) (a .beta) (a .prior) (a .regularised) (a .tolerance) (a .loop-limit)) (a .grades) (a .evidence .now) (a .pairs .now) (lentWith (a .work-floats .now) (a .work-numbers .now) (a .belief-numbers .now) (a .belief-floats .now) (a .ending-numbers .now) (a .ending-floats .now)) _ _ (sym (c .before .before .before .judge .ensures) ∙ ap verdictOf (c .before .verdict .given .1)))
+    by-parts _ _ _ _ _ (held (c .before .before .before .before .before .before .before .before .before .before .before)) _
+    (sym (call-refused (settingsOf (a .alpha) (a .beta) (a .prior) (a .regularised) (a .tolerance) (a .loop-limit)) (a .grades) (a .evidence .now) (a .pairs .now) (lentWith (a .work-floats .now) (a .work-numbers .now) (a .belief-numbers .now) (a .belief-floats .now) (a .ending-numbers .now) (a .ending-floats .now)) _ _ (sym (c .before .before .before .judge .ensures) ∙ ap verdictOf (c .before .verdict .given .1))))
 
 enum-told : tie.Need-enum-told
 enum-told c = search needs
@@ -98,7 +108,8 @@ returns-2 : tie.Need-returns-2
 returns-2 c =
     let x = c .before .before .before .before .before .before .before .before .before .before .before .before .before .before .before .before .before .before .before .before .before in
     let r = c .before .before .before .before .before .before .before .before .before .before .before .before .before .before .calibrate-accepted .ensures in
-    call-answered _ _ _ _ _ (passed x) _ _ _ (r .1) _ _ (r .0 .0) (r .0 .1)
+    by-parts _ _ _ _ _ (held (x .before .before .before .before .before .before .before .before .before .before)) _
+    (call-answered _ _ _ _ _ (passed x) _ _ _ (r .1) _ _ (r .0 .0) (r .0 .1))
 
 pub calibrate-all-subgraphs-spec : {M : Type 1} → statement M
 calibrate-all-subgraphs-spec =

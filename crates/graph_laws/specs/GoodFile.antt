@@ -1,0 +1,158 @@
+-- A file in which nothing is bad is one in document 01's order: one each of 1, 2, 3, then all 4s, all 5s, one 6 and nothing after.
+use Prim.Native.Nat.{ℕ, zero, suc, _%_, _≤_}
+use native.Mathlib.Omega.{arith}
+use mathlib.Core.Path.{_≡_, refl, sym, ap, _∙_, subst}
+use mathlib.Core.Logic.{_⊎_, inl, inr}
+use mathlib.Core.Bool.{Bool, true, false, true≢false, false≢true}
+use mathlib.Core.Option.{some}
+use mathlib.Core.List.{List, [], _∷_, _++_, map}
+use borrow.Author.Tests.{leb-true}
+use lib.Dec.{eqb, leb}
+use lib.ListN.{length, getD, getElem?, replicate}
+use Rattle.definition.specs.BaleFile.{words, wordKind, cleanWord, mayFollow}
+use Rattle.claims.specs.FileRefused.{kindBefore, BadAt, disorder, strayBit, missingEnd, bytesLeft, GoodFile, NoneBad}
+use Rattle.graph_laws.specs.Bools.{and-left, and-right, eqb-sound, eqb-same}
+use Rattle.graph_laws.specs.FirstChecks.{nothing}
+use Rattle.graph_laws.specs.FileRefused.{file-judged}
+
+-- each kind may follow the one before, the first of them j, and the last is 6
+abbrev Ordered : ℕ → List ℕ → Type 0
+Ordered j [] = j ≡ 6
+Ordered j (k ∷ ks) = (mayFollow j k ≡ true) × Ordered k ks
+
+-- ---- by places
+
+from-places : (j : ℕ) (ws : List ℕ) → ((p w : ℕ) → getElem? ws p ≡ some w → mayFollow (getD (j ∷ map wordKind ws) p 0) (wordKind w) ≡ true)
+    → getD (j ∷ map wordKind ws) (length ws) 0 ≡ 6 → Ordered j (map wordKind ws)
+from-places j [] h e = e
+from-places j (w ∷ ws) h e = (h 0 w refl, from-places (wordKind w) ws (λ p. h (suc p)) e)
+
+at-place : (j : ℕ) (ws : List ℕ) → Ordered j (map wordKind ws) → (p w : ℕ) → getElem? ws p ≡ some w
+    → mayFollow (getD (j ∷ map wordKind ws) p 0) (wordKind w) ≡ true
+at-place j [] o p w e = absurd (nothing e)
+at-place j (x ∷ ws) o zero w e = let z : x ≡ w = cc in subst (λ (v : ℕ). mayFollow j (wordKind v) ≡ true) z (o .0)
+at-place j (x ∷ ws) o (suc p) w e = at-place (wordKind x) ws (o .1) p w e
+
+at-end : (j : ℕ) (ws : List ℕ) → Ordered j (map wordKind ws) → getD (j ∷ map wordKind ws) (length ws) 0 ≡ 6
+at-end j [] o = o
+at-end j (x ∷ ws) o = at-end (wordKind x) ws (o .1)
+
+-- ---- the order is document 01's
+
+abbrev pairsOn : ℕ → List ℕ
+pairsOn n = replicate n 5 ++ 6 ∷ []
+
+abbrev markersOn : ℕ → ℕ → List ℕ
+markersOn m n = replicate m 4 ++ pairsOn n
+
+four-to-six : (k : ℕ) → 4 ≤ k → k ≤ 6 → (k ≡ 4) ⊎ ((k ≡ 5) ⊎ (k ≡ 6))
+four-to-six zero a b = absurd (let z : ⊥ = omega arith in z)
+four-to-six (suc zero) a b = absurd (let z : ⊥ = omega arith in z)
+four-to-six (suc (suc zero)) a b = absurd (let z : ⊥ = omega arith in z)
+four-to-six (suc (suc (suc zero))) a b = absurd (let z : ⊥ = omega arith in z)
+four-to-six (suc (suc (suc (suc zero)))) a b = inl refl
+four-to-six (suc (suc (suc (suc (suc zero))))) a b = inr (inl refl)
+four-to-six (suc (suc (suc (suc (suc (suc zero)))))) a b = inr (inr refl)
+four-to-six (suc (suc (suc (suc (suc (suc (suc k))))))) a b = absurd (let z : ⊥ = omega arith in z)
+
+-- nothing follows 6
+none-after : (k : ℕ) → mayFollow 6 k ≡ true → ⊥
+unfolding mayFollow
+none-after k h = false≢true h
+
+-- what follows 5, and what follows 3 or 4
+after-five : (k : ℕ) (ks : List ℕ) → mayFollow 5 k ≡ true → Ordered k ks → (n : ℕ) × (k ∷ ks ≡ pairsOn n)
+unfolding mayFollow
+after-five k [] h o = (0, ap (λ (i : ℕ). i ∷ []) o)
+after-five k (j ∷ ks) h o =
+    let a = leb-true 5 k (and-left (leb 5 k) (leb k 6) h) in
+    go (four-to-six k (omega arith) (leb-true k 6 (and-right (leb 5 k) (leb k 6) h))) (λ f. after-five j ks f (o .1))
+  where
+    go : (k ≡ 4) ⊎ ((k ≡ 5) ⊎ (k ≡ 6)) → (mayFollow 5 j ≡ true → (n : ℕ) × (j ∷ ks ≡ pairsOn n)) → (n : ℕ) × (k ∷ j ∷ ks ≡ pairsOn n)
+    go (inl e) r = absurd (let z = leb-true 5 k (and-left (leb 5 k) (leb k 6) h) in let y : ⊥ = omega arith in y)
+    go (inr (inl e)) r = let x = r (subst (λ (i : ℕ). mayFollow i j ≡ true) e (o .0)) in (suc (x .0), λ i. e i ∷ x .1 i)
+    go (inr (inr e)) r = absurd (none-after j (subst (λ (i : ℕ). mayFollow i j ≡ true) e (o .0)))
+
+after-three : (k : ℕ) (ks : List ℕ) → mayFollow 4 k ≡ true → Ordered k ks → (m : ℕ) × (n : ℕ) × (k ∷ ks ≡ markersOn m n)
+unfolding mayFollow
+after-three k [] h o = (0, 0, ap (λ (i : ℕ). i ∷ []) o)
+after-three k (j ∷ ks) h o =
+    go (four-to-six k (leb-true 4 k (and-left (leb 4 k) (leb k 6) h)) (leb-true k 6 (and-right (leb 4 k) (leb k 6) h))) (λ f. after-three j ks f (o .1))
+  where
+    go : (k ≡ 4) ⊎ ((k ≡ 5) ⊎ (k ≡ 6)) → (mayFollow 4 j ≡ true → (m : ℕ) × (n : ℕ) × (j ∷ ks ≡ markersOn m n))
+        → (m : ℕ) × (n : ℕ) × (k ∷ j ∷ ks ≡ markersOn m n)
+    go (inl e) r = let x = r (subst (λ (i : ℕ). mayFollow i j ≡ true) e (o .0)) in (suc (x .0), x .1, λ i. e i ∷ x .2 i)
+    go (inr (inl e)) r =
+        let x = after-five j ks (subst (λ (i : ℕ). mayFollow i j ≡ true) e (o .0)) (o .1) in
+        (0, suc (x .0), λ i. e i ∷ x .1 i)
+    go (inr (inr e)) r = absurd (none-after j (subst (λ (i : ℕ). mayFollow i j ≡ true) e (o .0)))
+
+abbrev InOrder : List ℕ → Type 0
+InOrder ks = (m : ℕ) × (n : ℕ) × (ks ≡ 1 ∷ 2 ∷ 3 ∷ markersOn m n)
+
+in-order : (ks : List ℕ) → Ordered 0 ks → InOrder ks
+unfolding mayFollow
+in-order [] o = absurd (let z : ⊥ = omega arith in z)
+in-order (a ∷ []) o = let e = eqb-sound a 1 (o .0) in absurd (let z : ⊥ = omega (arith, o .1) in z)
+in-order (a ∷ b ∷ []) o =
+    let e = eqb-sound a 1 (o .0) in
+    let f = eqb-sound b 2 (subst (λ (i : ℕ). mayFollow i b ≡ true) e (o .1 .0)) in
+    absurd (let z : ⊥ = omega (arith, o .1 .1) in z)
+in-order (a ∷ b ∷ d ∷ []) o =
+    let e = eqb-sound a 1 (o .0) in
+    let f = eqb-sound b 2 (subst (λ (i : ℕ). mayFollow i b ≡ true) e (o .1 .0)) in
+    let g = eqb-sound d 3 (subst (λ (i : ℕ). mayFollow i d ≡ true) f (o .1 .1 .0)) in
+    absurd (let z : ⊥ = omega (arith, o .1 .1 .1) in z)
+in-order (a ∷ b ∷ d ∷ k ∷ ks) o =
+    let e = eqb-sound a 1 (o .0) in
+    let f = eqb-sound b 2 (subst (λ (i : ℕ). mayFollow i b ≡ true) e (o .1 .0)) in
+    let g = eqb-sound d 3 (subst (λ (i : ℕ). mayFollow i d ≡ true) f (o .1 .1 .0)) in
+    let x = after-three k ks (subst (λ (i : ℕ). mayFollow i k ≡ true) g (o .1 .1 .1 .0)) (o .1 .1 .1 .1) in
+    (x .0, x .1, λ i. e i ∷ f i ∷ g i ∷ x .2 i)
+
+-- and the other way
+pairs-ordered : (j : ℕ) → mayFollow j 5 ≡ true → mayFollow j 6 ≡ true → (n : ℕ) → Ordered j (pairsOn n)
+unfolding mayFollow
+pairs-ordered j a b zero = (b, refl)
+pairs-ordered j a b (suc n) = (a, pairs-ordered 5 refl refl n)
+
+markers-ordered : (j : ℕ) → mayFollow j 4 ≡ true → mayFollow j 5 ≡ true → mayFollow j 6 ≡ true → (m n : ℕ) → Ordered j (markersOn m n)
+unfolding mayFollow
+markers-ordered j a b d zero n = pairs-ordered j b d n
+markers-ordered j a b d (suc m) n = (a, markers-ordered 4 refl refl refl m n)
+
+ordered-in : (ks : List ℕ) → InOrder ks → Ordered 0 ks
+unfolding mayFollow
+ordered-in ks x = subst (Ordered 0) (sym (x .2)) (refl, (refl, (refl, markers-ordered 3 refl refl refl (x .0) (x .1))))
+
+-- ---- the file
+
+is-true : (b : Bool) → (b ≡ false → ⊥) → b ≡ true
+is-true true h = refl
+is-true false h = absurd (h refl)
+
+-- what is not unequal
+same : (k n : ℕ) → ((k ≡ n → ⊥) → ⊥) → k ≡ n
+same k n h = eqb-sound k n (is-true (eqb k n) (λ a. h (λ e. true≢false (sym (eqb-same n) ∙ ap (λ (i : ℕ). eqb i n) (sym e) ∙ a))))
+
+module _ (bs : List ℕ) where
+  good-shape : ((p : ℕ) → BadAt bs p → ⊥) → GoodFile bs
+  good-shape h =
+      let end : kindBefore (words bs) (length (words bs)) ≡ 6 = same _ 6 (λ a. h (length (words bs)) (missingEnd a)) in
+      let o = in-order (map wordKind (words bs)) (from-places 0 (words bs) (λ p w e. is-true _ (λ a. h p (disorder e a))) end) in
+      record {
+        whole = same (length bs % 4) 0 (λ a. h (length (words bs)) (bytesLeft a));
+        markers = o .0;
+        pairs = o .1;
+        kinds = o .2;
+        clean = λ p w e. is-true (cleanWord w) (λ a. h p (strayBit e a));
+      }
+
+  shape-good : GoodFile bs → {p : ℕ} → BadAt bs p → ⊥
+  shape-good g (disorder {p = p} {w = w} e a) = true≢false (sym (at-place 0 (words bs) (ordered-in _ (g .markers, g .pairs, g .kinds)) p w e) ∙ a)
+  shape-good g (strayBit {p = p} {w = w} e a) = true≢false (sym (g .clean p w e) ∙ a)
+  shape-good g (missingEnd n) = n (at-end 0 (words bs) (ordered-in _ (g .markers, g .pairs, g .kinds)))
+  shape-good g (bytesLeft n) = n (g .whole)
+
+pub none-bad : NoneBad
+none-bad bs = (λ e. good-shape bs (file-judged bs .good .0 e), λ g. file-judged bs .good .1 (λ p x. shape-good bs g x))

@@ -1,0 +1,4 @@
+-- Calls of `read` and `write` by what they answered (Reads, Writes).
+pub mod Answers
+pub mod Reads
+pub mod Writes
