@@ -10,7 +10,7 @@
  * the inputs, and `regularised` is 0 or 1. Everything else is checked, and every input is answered.
  *
  * Nothing is allocated, nothing is kept between calls, and no function of the library calls itself, directly or through others. No theorem bounds
- * the stack that it uses. Measured at its peak the call took 170 KiB, all read patterns 234 KiB and tried settings 244 KiB (docs/PERFORMANCE.md). */
+ * the stack that it uses. Measured at its peak the call took 202 KiB, all read patterns 234 KiB and tried settings 244 KiB (docs/PERFORMANCE.md). */
 #ifndef PIKAPLATINUM_H
 #define PIKAPLATINUM_H
 
