@@ -6,7 +6,7 @@
 // differ (`replay_all`). What is only run: that this list is `stdin`. No contract can say which bytes a read gave, so `read_entry` says only that they
 // fit; that all are read, and each counted, is to be seen in `replay_next` and `replay_all`.
 ghost use mathlib.Core.Path.{_≡_};
-ghost use Prim.Native.Nat.{_≤_, _<_};
+ghost use Prim.Native.Nat.{_+_, _*_, _≤_, _<_};
 ghost use lib.ListN.{length};
 ghost use Rattle.definition.specs.Listing.{listing};
 ghost use Rattle.replay.specs.Same.{sameBytes};
@@ -37,7 +37,9 @@ enum Step {
 }
 
 // Three bytes, the lowest first.
-fn number_of(a: u8, b: u8, c: u8) -> usize {
+fn number_of(a: u8, b: u8, c: u8) -> usize
+    ensures { λ r. ⌜ r ≡ a + 256 * b + 65536 * c ⌝ }
+{
     a as usize + 256 * (b as usize) + 65536 * (c as usize)
 }
 
