@@ -15,8 +15,6 @@ use lib.Seq.{length-take-le}
 use borrow.Author.Tests.{lt-ltb, le-ltb, ltb-true, ltb-false}
 use Rattle.io.specs.Counts.{clamped}
 use Rattle.definition.specs.BaleFile.{words}
-use Rattle.definition.specs.Call.{overwrite}
-use Rattle.listing.specs.Front.{Begins, begins-long, begins-overwritten}
 use Rattle.bale_file.specs.Decoder.{Fed}
 use Rattle.bale_file.specs.Spoilt.{badAmong, fed-bad}
 use Rattle.bale_listing.specs.declared.input.Input.{Input}
@@ -108,17 +106,6 @@ held-as z s bs buffer t ms ps h = subst (λ (y : ℤ). HoldsInput (afterRead (re
 
 pub listing-is : (x : Came) (t : Taking) (ms ps : List ℕ) → HoldsInput x t ms ps → (p : Phase) → t .phase ≡ p → listingOf x ≡ listingAt p (x .bytes)
 listing-is x t ms ps h p e = ap (λ (q : Phase). listingAt q (x .bytes)) (sym (h .phase) ∙ e)
-
--- it stands at the front of the buffer, and fits
-module _ (x : Came) (out out′ : List ℕ) (n : ℕ) (e : (out′ ≡ overwrite (listingOf x) out) × (n ≡ length (listingOf x))) where
-  begins : Begins (listingOf x) out′
-  begins = rw (e .0) (begins-overwritten (listingOf x) out)
-
-  pub listing-fits : n ≤ length out′
-  listing-fits = omega (arith, e .1, begins-long (listingOf x) out′ begins)
-
-  pub listing-front : take n out′ ≡ listingOf x
-  listing-front = rw (e .1) begins
 
 -- ---- the loop
 

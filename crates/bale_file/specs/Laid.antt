@@ -7,8 +7,8 @@ use mathlib.Core.List.{List, [], _∷_, map}
 use lib.Ieee.{Float}
 use lib.ListN.{length, getD, set, take}
 use lib.Seq.{take-all}
-use Rattle.definition.specs.FactorGraph.{Evidence, Pair}
 use Rattle.definition.specs.BaleFile.{evidenceOf, pairOf}
+use Rattle.definition.specs.Lists.{twos}
 use Rattle.definition.specs.Refusals.{markersOf, pairsOf}
 use Rattle.definition.specs.Call.{overwrite}
 
@@ -59,32 +59,21 @@ pairsLaid = laid (λ w. pairOf w .grade) (λ w. pairOf w .marker)
 
 -- ---- in a slice of just their length they are the bale's markers and pairs
 
-markers-whole :
-    (ws : List ℕ) (xs : List Float) → length xs ≡ 2 * length ws →
-    markersOf (overwrite (inTwos (λ w. evidenceOf w .absent) (λ w. evidenceOf w .present) ws) xs) ≡ map evidenceOf ws
-unfolding markersOf
-markers-whole [] [] e = refl
-markers-whole [] (x ∷ xs) e = absurd (let z : ⊥ = omega arith in z)
-markers-whole (w ∷ ws) [] e = absurd (let z : ⊥ = omega arith in z)
-markers-whole (w ∷ ws) (x ∷ []) e = absurd (let z : ⊥ = omega arith in z)
-markers-whole (w ∷ ws) (x ∷ y ∷ xs) e = ap (λ (l : List Evidence). evidenceOf w ∷ l) (markers-whole ws xs (omega arith))
+module _ {A B : Type 0} (f g : ℕ → A) (h : A → A → B) where
+  all-laid : (ws : List ℕ) (xs : List A) → length xs ≡ 2 * length ws → twos h (overwrite (inTwos f g ws) xs) ≡ map (λ w. h (f w) (g w)) ws
+  all-laid [] [] e = refl
+  all-laid [] (x ∷ xs) e = absurd (let z : ⊥ = omega arith in z)
+  all-laid (w ∷ ws) [] e = absurd (let z : ⊥ = omega arith in z)
+  all-laid (w ∷ ws) (x ∷ []) e = absurd (let z : ⊥ = omega arith in z)
+  all-laid (w ∷ ws) (x ∷ y ∷ xs) e = ap (λ (l : List B). h (f w) (g w) ∷ l) (all-laid ws xs (omega arith))
+
+  laid-twos : (ws : List ℕ) (xs : List A) → length xs ≡ 2 * length ws → twos h (laid f g ws xs) ≡ map (λ w. h (f w) (g w)) ws
+  laid-twos ws xs e = ap (λ (vs : List ℕ). twos h (overwrite (inTwos f g vs) xs)) (take-all (length xs / 2) ws (omega arith)) ∙ all-laid ws xs e
 
 pub laid-markers : (ws : List ℕ) (xs : List Float) → length xs ≡ 2 * length ws → markersOf (evidenceLaid ws xs) ≡ map evidenceOf ws
-laid-markers ws xs e =
-    ap (λ (vs : List ℕ). markersOf (overwrite (inTwos (λ w. evidenceOf w .absent) (λ w. evidenceOf w .present) vs) xs)) (take-all (length xs / 2) ws (omega arith))
-    ∙ markers-whole ws xs e
-
-pairs-whole :
-    (ws xs : List ℕ) → length xs ≡ 2 * length ws →
-    pairsOf (overwrite (inTwos (λ w. pairOf w .grade) (λ w. pairOf w .marker) ws) xs) ≡ map pairOf ws
-unfolding pairsOf
-pairs-whole [] [] e = refl
-pairs-whole [] (x ∷ xs) e = absurd (let z : ⊥ = omega arith in z)
-pairs-whole (w ∷ ws) [] e = absurd (let z : ⊥ = omega arith in z)
-pairs-whole (w ∷ ws) (x ∷ []) e = absurd (let z : ⊥ = omega arith in z)
-pairs-whole (w ∷ ws) (x ∷ y ∷ xs) e = ap (λ (l : List Pair). pairOf w ∷ l) (pairs-whole ws xs (omega arith))
+unfolding markersOf evidenceOf
+laid-markers = laid-twos (λ w. evidenceOf w .absent) (λ w. evidenceOf w .present) (λ a p. record { absent = a; present = p })
 
 pub laid-pairs : (ws xs : List ℕ) → length xs ≡ 2 * length ws → pairsOf (pairsLaid ws xs) ≡ map pairOf ws
-laid-pairs ws xs e =
-    ap (λ (vs : List ℕ). pairsOf (overwrite (inTwos (λ w. pairOf w .grade) (λ w. pairOf w .marker) vs) xs)) (take-all (length xs / 2) ws (omega arith))
-    ∙ pairs-whole ws xs e
+unfolding pairsOf pairOf
+laid-pairs = laid-twos (λ w. pairOf w .grade) (λ w. pairOf w .marker) (λ g m. record { grade = g; marker = m })

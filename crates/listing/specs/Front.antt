@@ -33,3 +33,14 @@ module _ {A : Type 0} where
   -- a list written over the front of another
   pub begins-overwritten : (xs l : List A) → Begins xs (overwrite xs l)
   begins-overwritten xs l = take-at xs (drop (length xs) l) (length xs) refl
+
+  -- n entries of it were: they fit, and are read back
+  module _ (xs l k : List A) (n : ℕ) (e : (k ≡ overwrite xs l) × (n ≡ length xs)) where
+    begins : Begins xs k
+    begins = rw (e .0) (begins-overwritten xs l)
+
+    pub front-fits : n ≤ length k
+    front-fits = omega (arith, e .1, begins-long xs k begins)
+
+    pub front-is : take n k ≡ xs
+    front-is = rw (e .1) begins

@@ -1,16 +1,15 @@
--- When two lists of bytes are the same, and a listing at the front of a buffer.
+-- When two lists of bytes are the same.
 use Prim.Native.Nat.{ℕ, _+_, _≤_, _<_}
 use native.Mathlib.Omega.{arith}
 use native.Mathlib.Decide.{decLt}
-use mathlib.Core.Path.{_≡_, refl, sym, ap, _∙_}
+use mathlib.Core.Path.{_≡_, refl, sym}
 use mathlib.Core.Logic.{by-cases}
 use mathlib.Core.Bool.{Bool, true, false, _&&_, false≢true}
 use mathlib.Core.List.{List, [], _∷_}
 use lib.Dec.{eqb}
-use lib.ListN.{length, getD, take, drop, length-append}
-use lib.Seq.{ext-getD, take-append-seam}
+use lib.ListN.{length, getD}
+use lib.Seq.{ext-getD}
 use borrow.Author.Tests.{eqb-true, eq-eqb}
-use Rattle.definition.specs.Call.{overwrite}
 use Rattle.graph_laws.specs.Bools.{and-left, and-right, not-true}
 
 unfoldable pub sameBytes : List ℕ → List ℕ → Bool
@@ -45,12 +44,3 @@ same-more a b i h e j q = by-cases (decLt j i) (λ (z : j < i). h j z) (λ z. le
 
 pub same-all : (a b : List ℕ) (i : ℕ) → length a ≡ length b → ((j : ℕ) → j < i → getD a j 0 ≡ getD b j 0) → length a ≤ i → a ≡ b
 same-all a b i e h k = ext-getD 0 a b e (λ j q. h j (omega arith))
-
--- ---- a listing that stands at the front of a buffer, as the program writes it
-
-module _ (l m k : List ℕ) (n : ℕ) (e : (k ≡ overwrite l m) × (n ≡ length l)) where
-  pub front-fits : n ≤ length k
-  front-fits = omega (arith, e .1, ap length (e .0), length-append l (drop (length l) m))
-
-  pub front-is : take n k ≡ l
-  front-is = ap (take n) (e .0) ∙ ap (λ (i : ℕ). take i (overwrite l m)) (e .1) ∙ take-append-seam l (drop (length l) m)

@@ -5,7 +5,8 @@ use mathlib.Core.Path.{sym, subst}
 use lib.Seq.{length-take-le}
 use borrow.Author.Needs.{needs}
 use Rattle.streams.specs.Writes.{HandedOver}
-use Rattle.bale.specs.Taking.{listing-fits, listing-front}
+use Rattle.listing.specs.Front.{front-fits, front-is}
+use Rattle.bale.specs.Program.{listingOf}
 use Rattle.bale.proofs.write_listing.Statement.{statement}
 use Rattle.bale.proofs.write_listing.Tie as tie
 
@@ -19,16 +20,16 @@ put-listing-requires : tie.Need-put-listing-requires
 put-listing-requires c κs = search needs
 
 array-share-prefix-out : tie.Need-array-share-prefix-out
-array-share-prefix-out c = let h = c .before .before .before .before .before .before .pre in listing-fits (h .came) _ _ _ (c .before .put-listing .ensures (h .came) (h .holds))
+array-share-prefix-out c = let h = c .before .before .before .before .before .before .pre in front-fits (listingOf (h .came)) _ _ _ (c .before .put-listing .ensures (h .came) (h .holds))
 
 slice-aggregate-hand-over : tie.Need-slice-aggregate-hand-over
-slice-aggregate-hand-over c = let h = c .before .before .before .before .before .before .before .pre in sym (length-take-le _ _ (listing-fits (h .came) _ _ _ (c .before .before .put-listing .ensures (h .came) (h .holds))))
+slice-aggregate-hand-over c = let h = c .before .before .before .before .before .before .before .pre in sym (length-take-le _ _ (front-fits (listingOf (h .came)) _ _ _ (c .before .before .put-listing .ensures (h .came) (h .holds))))
 
 hand-over-requires : tie.Need-hand-over-requires
 hand-over-requires c κs = search needs
 
 returns : tie.Need-returns
-returns c = λ x h. subst (λ (text : List ℕ). HandedOver text (c .hand-over .result)) (listing-front x _ _ _ (c .before .before .before .put-listing .ensures x h)) (c .hand-over .ensures)
+returns c = λ x h. subst (λ (text : List ℕ). HandedOver text (c .hand-over .result)) (front-is (listingOf x) _ _ _ (c .before .before .before .put-listing .ensures x h)) (c .hand-over .ensures)
 
 pub write-listing-spec : {M : Type 1} → statement M
 write-listing-spec =

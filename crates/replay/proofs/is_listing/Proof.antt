@@ -5,7 +5,8 @@ use mathlib.Core.List.{List, []}
 use Prim.Native.Nat.{ℕ}
 use lib.Seq.{length-take-le}
 use Rattle.definition.specs.Listing.{listing}
-use Rattle.replay.specs.Same.{sameBytes, front-fits, front-is}
+use Rattle.listing.specs.Front.{front-fits, front-is}
+use Rattle.replay.specs.Same.{sameBytes}
 use borrow.Author.Needs.{needs}
 use Rattle.replay.proofs.is_listing.Statement.{statement}
 use Rattle.replay.proofs.is_listing.Tie as tie
