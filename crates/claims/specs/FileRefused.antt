@@ -9,8 +9,10 @@ use lib.ListN.{length, getD, getElem?, replicate}
 use Rattle.definition.specs.Lists.{range}
 use Rattle.definition.specs.FactorGraph.{Bale}
 use Rattle.definition.specs.Answer.{answer}
+use Rattle.definition.specs.Refusals.{accepted, refused}
 use Rattle.definition.specs.BaleFile.{words, wordKind, cleanWord, mayFollow, badWord, settingsOfWords, baleOfWords}
-use Rattle.definition.specs.Listing.{partLines, baleLine, refusal, buffers, listing}
+use Rattle.definition.specs.FileAnswer.{buffers, fileVerdict}
+use Rattle.definition.specs.Listing.{partLines, baleLine, refusal, listing}
 use Rattle.claims.specs.First.{First}
 use Rattle.claims.specs.Refused.{Fails}
 
@@ -61,7 +63,9 @@ pub data FileFails (bs : List ℕ) : ℕ → ℕ → Type 0 where
   manyPairs : 140 < length (baleIn bs .pairs) → FileFails bs 1 0
   asCalled : {n p : ℕ} → Fails (settingsOfWords (words bs)) buffers (baleIn bs) n p → FileFails bs n p
 
--- The program prints the first refusal in that order, 9 ahead of all others, and the answer if there is none.
+-- The verdict is the first refusal in that order, 9 ahead of all others, and a file is accepted exactly if there is none; and so it is printed.
 pub record FileListed (bs : List ℕ) : Type 0 where
+  pub refused-at : (n p : ℕ) → fileVerdict bs ≡ refused n p ↔ First (9 ∷ range 1 8) (FileFails bs) n p
+  pub accepted-as : fileVerdict bs ≡ accepted ↔ ((n p : ℕ) → FileFails bs n p → ⊥)
   pub refuses : (n p : ℕ) → First (9 ∷ range 1 8) (FileFails bs) n p → listing bs ≡ refusal n p
   pub answers : ((n p : ℕ) → FileFails bs n p → ⊥) → listing bs ≡ baleLine (baleIn bs) ++ partLines (answer (settingsOfWords (words bs)) (baleIn bs))

@@ -11,6 +11,8 @@ pub mod First
 pub mod Refused
 -- The program's, with number 9.
 pub mod FileRefused
+-- A shift's input cut into bales.
+pub mod ShiftCut
 -- Two readers over one belt.
 pub mod Matching
 -- All read patterns of a small graph.

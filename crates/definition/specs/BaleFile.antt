@@ -12,13 +12,17 @@ use Rattle.definition.specs.FactorGraph.{Evidence, Pair, Bale}
 
 -- ---- bytes to words
 
+-- four bytes, the lowest first
+abbrev pub wordOf : ℕ → ℕ → ℕ → ℕ → ℕ
+wordOf a b d e = a + 256 * b + 65536 * d + 16777216 * e
+
 -- the whole words; up to three bytes are left over
 unfoldable pub words : List ℕ → List ℕ
 words [] = []
 words (a ∷ []) = []
 words (a ∷ b ∷ []) = []
 words (a ∷ b ∷ d ∷ []) = []
-words (a ∷ b ∷ d ∷ e ∷ l) = (a + 256 * b + 65536 * d + 16777216 * e) ∷ words l
+words (a ∷ b ∷ d ∷ e ∷ l) = wordOf a b d e ∷ words l
 
 -- ---- a word
 

@@ -1,9 +1,9 @@
--- Document 01's 'Bales to prove' and patterns of reads, as one table, proved together by computing the definitions.
+-- Document 01's 'Bales to prove', a shift, patterns of reads and made-up bales, as one table, proved together by computing the definitions.
 use Prim.Native.Nat.{ℕ, _/_, _%_}
 use mathlib.Core.Path.{_≡_, refl}
 use mathlib.Core.Bool.{Bool, true, false}
 use mathlib.Core.Option.{some}
-use mathlib.Core.List.{List, [], _∷_, map}
+use mathlib.Core.List.{List, [], _∷_, _++_, map}
 use lib.IntN.{pos, negsuc}
 use lib.ListN.{length, getD, replicate}
 use lib.Ieee.{Float, binary32, fin, round, add, sub, mul, div, neg, lt, le, eq, isNan, ofInt, toUnsigned, toBits, size, ofBits}
@@ -22,7 +22,9 @@ use Rattle.definition.specs.Run.{initialPriority, beginLoop, updateSingl
 use Rattle.definition.specs.Answer.{logMarginal, marginal, beliefsAmong, partAnswer, answersOf, answersFrom, answer, endingNumber, endingResidual, answeredBeliefs, beliefNumbers, beliefFloats, endingNumbers, endingFloats}
 use Rattle.definition.specs.Refusals.{markersOf, pairsOf, baleOf, outside, tooMany, workNeeded, tooSmall, badTolerance, badEvidence, unknownPair, lowestPlaceFrom, lowestPlace, repeatedPairs, tooManyGrades, orRefused, verdict, Buffers, accepted, refused}
 use Rattle.definition.specs.BaleFile.{words, wordKind, bits, fieldWidth, cleanWord, mayFollow, badWordFrom, badWord, wordsOfKind, firstOfKind, settingsOfWords, evidenceOf, pairOf, baleOfWords}
-use Rattle.definition.specs.Listing.{decimalBefore, decimal, hexDigit, hexBefore, hex, line, partFields, beliefLine, beliefLines, partLines, baleLine, refusal, verdictLines, fileLines, listing}
+use Rattle.definition.specs.FileAnswer.{fileVerdict}
+use Rattle.definition.specs.Listing.{decimalBefore, decimal, hexDigit, hexBefore, hex, line, partFields, beliefLine, beliefLines, partLines, baleLine, refusal, verdictLines, listing}
+use Rattle.definition.specs.Shift.{onFirst, bales, shiftListing}
 use Rattle.definition.specs.Lists.{range, concat, patterns}
 use Rattle.definition.specs.Reads.{withReads, allWeak, presentOf, presentUnder, aboveHalf}
 use Rattle.definition.specs.Report.{ReportBuffers, ampleFor, sizesVerdict}
@@ -35,6 +37,16 @@ use Rattle.definition.specs.Text.{ascii}
 -- 32-bit words as the bytes of a file
 abbrev littleEndian : List ℕ → List ℕ
 littleEndian ws = concat (map (λ w. (w % 256) ∷ (w / 256 % 256) ∷ (w / 65536 % 256) ∷ (w / 16777216) ∷ []) ws)
+
+-- document 01's sample; an end word alone; a word of kind 4 and an end word with a bit set, and three bytes
+abbrev sample : List ℕ
+sample = littleEndian (0x20080200 ∷ 0x40000200 ∷ 0x60000001 ∷ 0x80002000 ∷ 0xA0000000 ∷ 0xC0000000 ∷ [])
+
+abbrev early : List ℕ
+early = littleEndian (0xC0000000 ∷ [])
+
+abbrev stray : List ℕ
+stray = littleEndian (0x80002000 ∷ 0xC0000001 ∷ []) ++ 0 ∷ 0 ∷ 0 ∷ []
 
 -- alpha is a/d, and beta and the prior are 1/2
 abbrev settings : ℕ → ℕ → Bool → Settings
@@ -87,8 +99,13 @@ over2 m e = fin false m (negsuc e)
 
 pub record Bales : Type 0 where
   -- the listing
-  pub listed : listing (littleEndian (0x20080200 ∷ 0x40000200 ∷ 0x60000001 ∷ 0x80002000 ∷ 0xA0000000 ∷ 0xC0000000 ∷ []))
+  pub listed : listing sample
       ≡ ascii "bale 1 1 1\npart 0 empty 0\n0 3F000000 3F000000\n"
+  -- a shift: no bale; an early end, a bale, one without settings whose end has a bit set, and three bytes; and what each is listed as
+  pub shift-of-none : shiftListing [] ≡ []
+  pub shift-cut : map length (bales (early ++ sample ++ stray)) ≡ 4 ∷ 24 ∷ 8 ∷ 3 ∷ []
+  pub shift-listed : shiftListing (early ++ sample ++ stray)
+      ≡ ascii "refused 9 at 0\nbale 1 1 1\npart 0 empty 0\n0 3F000000 3F000000\nrefused 9 at 0\nrefused 9 at 0\n"
   -- the empty graph has no part; one grade alone is a part, and has no belief
   pub empty-graph : sizes (unmarked 0) ≡ []
   pub empty-answer : answer (settings 1 2 false) (unmarked 0) ≡ []
@@ -148,11 +165,14 @@ pub record Bales : Type 0 where
   pub unknown-marker-tried : trialVerdict (reporting 4) (trying (1 ∷ 1 ∷ 1 ∷ 5 ∷ []) 1 1 (marked 1 (0 ∷ 0 ∷ []) 0)) ≡ refused 6 0
   pub no-setting : trialVerdict (reporting 0) (trying [] 0 1 (unmarked 1)) ≡ accepted
 
-pub bales : Bales
-unfolding round add sub mul div neg lt le eq isNan ofInt toUnsigned toBits size ofBits maxᶠ abs avoidUnderflow clamp logTableNumber logTableEntry lnOfBits ln expSeries expReduced exp powiFrom powi sumOf productFrom productOf normalize avoidUnderflowAll logNormalize sumLogBlocks sumLogsBatched cpdAbsent cpdAbsentRegularised cpdRows cpdTable convolve countLayer messageUp likelihoodsBelow treeLayers logLength firstLayer treeMessages builtGraph walk components componentsOf subgraph subgraphOf edgeAt directionTo directionsTo firstsIncoming directionFrom messageNodesFrom messageGraph messageGraphOf setMessages copyNode copyNodes initialBelief outMessageLog outMessageVariable outMessageFactor outMessageFactorTo outMessageBy outMessage absLogRatio pairResidual vectorResidual residual equalMessages messageChange changeExceeds needsRebuild treeOutMessages outMessagesTree outMessages initialMessage updateKind openingInput openingFactor logTotal leaveOneOut openingVariable openingGrade initializeMessages opening computeUpdate sweep initialPriority beginLoop exceeds higher highestFrom highestPriority updateSingle neighbourNumbers updateTree updateMessage otherOutgoing addPending pushPriorities scheduledStep applyEvent stateAfter openingAndSweeps events loop run logMarginal marginal beliefsAmong partAnswer answersOf answersFrom answer endingNumber endingResidual answeredBeliefs beliefNumbers beliefFloats endingNumbers endingFloats markersOf pairsOf baleOf outside tooMany workNeeded tooSmall badTolerance badEvidence unknownPair lowestPlaceFrom lowestPlace repeatedPairs tooManyGrades orRefused verdict words wordKind bits fieldWidth cleanWord mayFollow badWordFrom badWord wordsOfKind firstOfKind settingsOfWords evidenceOf pairOf baleOfWords decimalBefore decimal hexDigit hexBefore hex line partFields beliefLine beliefLines partLines baleLine refusal verdictLines fileLines listing ascii patterns withReads presentOf aboveHalf patternCount patternCounts ampleFor sizesVerdict allWeak patternVerdict nextNumber draw drawEach drawReads markerLimits readLimits gradeLimits madeUp history settingsWith settingsUnder judgements allJudgements settingCounts trialCounts outsideRange settingTests trialVerdict trialSettingsOf
-bales =
+pub bales-computed : Bales
+unfolding round add sub mul div neg lt le eq isNan ofInt toUnsigned toBits size ofBits maxᶠ abs avoidUnderflow clamp logTableNumber logTableEntry lnOfBits ln expSeries expReduced exp powiFrom powi sumOf productFrom productOf normalize avoidUnderflowAll logNormalize sumLogBlocks sumLogsBatched cpdAbsent cpdAbsentRegularised cpdRows cpdTable convolve countLayer messageUp likelihoodsBelow treeLayers logLength firstLayer treeMessages builtGraph walk components componentsOf subgraph subgraphOf edgeAt directionTo directionsTo firstsIncoming directionFrom messageNodesFrom messageGraph messageGraphOf setMessages copyNode copyNodes initialBelief outMessageLog outMessageVariable outMessageFactor outMessageFactorTo outMessageBy outMessage absLogRatio pairResidual vectorResidual residual equalMessages messageChange changeExceeds needsRebuild treeOutMessages outMessagesTree outMessages initialMessage updateKind openingInput openingFactor logTotal leaveOneOut openingVariable openingGrade initializeMessages opening computeUpdate sweep initialPriority beginLoop exceeds higher highestFrom highestPriority updateSingle neighbourNumbers updateTree updateMessage otherOutgoing addPending pushPriorities scheduledStep applyEvent stateAfter openingAndSweeps events loop run logMarginal marginal beliefsAmong partAnswer answersOf answersFrom answer endingNumber endingResidual answeredBeliefs beliefNumbers beliefFloats endingNumbers endingFloats markersOf pairsOf baleOf outside tooMany workNeeded tooSmall badTolerance badEvidence unknownPair lowestPlaceFrom lowestPlace repeatedPairs tooManyGrades orRefused verdict words wordKind bits fieldWidth cleanWord mayFollow badWordFrom badWord wordsOfKind firstOfKind settingsOfWords evidenceOf pairOf baleOfWords decimalBefore decimal hexDigit hexBefore hex line partFields beliefLine beliefLines partLines baleLine refusal verdictLines fileVerdict listing onFirst bales shiftListing ascii patterns withReads presentOf aboveHalf patternCount patternCounts ampleFor sizesVerdict allWeak patternVerdict nextNumber draw drawEach drawReads markerLimits readLimits gradeLimits madeUp history settingsWith settingsUnder judgements allJudgements settingCounts trialCounts outsideRange settingTests trialVerdict trialSettingsOf
+bales-computed =
     record {
       listed = refl;
+      shift-of-none = refl;
+      shift-cut = refl;
+      shift-listed = refl;
       empty-graph = refl;
       empty-answer = refl;
       grade-alone = refl;

@@ -20,10 +20,12 @@ pub mod Answer
 pub mod Refusals
 pub mod Call
 pub mod PartAlone
--- The program: the bale file and its listing.
+-- The programs: the bale file, what it is answered, its listing; bale files that follow one another.
 pub mod BaleFile
+pub mod FileAnswer
 pub mod Text
 pub mod Listing
+pub mod Shift
 -- Two readers over one belt.
 pub mod Readers
 -- Markers read strongly or weakly, calls that report on many such runs: all patterns of reads, and settings tried on made-up bales.

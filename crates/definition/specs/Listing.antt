@@ -1,7 +1,6 @@
 -- What the program prints for the bytes of a bale file (document 01, 'The bale file').
 use Prim.Native.Nat.{ℕ, zero, suc, _+_, _/_, _%_}
 use mathlib.Core.Bool.{true, false, cond}
-use mathlib.Core.Option.{Option, none, some}
 use mathlib.Core.List.{List, [], _∷_, _++_, map}
 use lib.Dec.{ltb}
 use lib.Ieee.{Float, binary32, toBits}
@@ -11,9 +10,10 @@ use Rattle.definition.specs.Settings.{Settings}
 use Rattle.definition.specs.FactorGraph.{Bale}
 use Rattle.definition.specs.Run.{Ending, limit, settled, empty}
 use Rattle.definition.specs.Answer.{Belief, PartAnswer, answer}
-use Rattle.definition.specs.Refusals.{Buffers, Verdict, accepted, refused, tooMany, leastBuffers, orRefused, lowestPlace, verdict}
+use Rattle.definition.specs.Refusals.{Verdict, accepted, refused}
+use Rattle.definition.specs.BaleFile.{words, settingsOfWords, baleOfWords}
+use Rattle.definition.specs.FileAnswer.{fileVerdict}
 use Rattle.definition.specs.Text.{ascii}
-use Rattle.definition.specs.BaleFile.{words, badWord, settingsOfWords, baleOfWords}
 
 -- ---- numbers
 
@@ -65,22 +65,11 @@ baleLine b = line (ascii "bale" ∷ decimal (b .grades) ∷ decimal (length (b .
 unfoldable pub refusal : ℕ → ℕ → List ℕ
 refusal n p = line (ascii "refused" ∷ decimal n ∷ ascii "at" ∷ decimal p ∷ [])
 
--- ---- the program
-
--- The program lends what 24 grades, 24 markers and 140 pairs need, which is the most it takes.
-abbrev pub buffers : Buffers
-buffers = leastBuffers 24 24 140
+-- ---- a bale file
 
 unfoldable pub verdictLines : Verdict → Settings → Bale → List ℕ
 verdictLines accepted s b = baleLine b ++ partLines (answer s b)
 verdictLines (refused n p) s b = refusal n p
 
-unfoldable pub fileLines : Option ℕ → List ℕ → List ℕ
-fileLines (some i) ws = refusal 9 i
-fileLines none ws =
-    let s = settingsOfWords ws in
-    let b = baleOfWords ws in
-    verdictLines (orRefused 1 (lowestPlace (tooMany 24 24 140 b ∷ [])) (verdict s buffers b)) s b
-
 unfoldable pub listing : List ℕ → List ℕ
-listing bs = fileLines (badWord bs) (words bs)
+listing bs = verdictLines (fileVerdict bs) (settingsOfWords (words bs)) (baleOfWords (words bs))

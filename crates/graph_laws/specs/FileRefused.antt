@@ -10,9 +10,10 @@ use borrow.Author.Tests.{ltb-true, lt-ltb}
 use lib.Dec.{eqb, ltb}
 use lib.ListN.{length, getD, getElem?, drop}
 use Rattle.definition.specs.Lists.{range}
-use Rattle.definition.specs.Refusals.{tooMany, lowestPlaceFrom, lowestPlace, Verdict, orRefused, verdict}
+use Rattle.definition.specs.Refusals.{tooMany, lowestPlaceFrom, lowestPlace, Verdict, orRefused}
 use Rattle.definition.specs.BaleFile.{words, wordKind, cleanWord, mayFollow, badWordFrom, badWord, settingsOfWords}
-use Rattle.definition.specs.Listing.{buffers, verdictLines, fileLines, listing}
+use Rattle.definition.specs.FileAnswer.{buffers, fileVerdict}
+use Rattle.definition.specs.Listing.{verdictLines, listing}
 use Rattle.claims.specs.FileRefused.{BadAt, disorder, strayBit, missingEnd, bytesLeft, FirstBad, FileJudged, baleIn, FileFails, badFile, manyGrades, manyMarkers, manyPairs, asCalled, FileListed}
 use Rattle.graph_laws.specs.Bools.{not-true, or-cases, or-right, eqb-sound}
 use Rattle.graph_laws.specs.FirstChecks.{Check, test, numberAt, firstOf, nothing, FirstTest, Found, found, accepted-exactly, refused-exactly}
@@ -92,12 +93,9 @@ overProgram bs = tooMany 24 24 140 (baleIn bs)
 abbrev overLibrary : List ℕ → Bool
 overLibrary bs = tooMany 1024 1024 8192 (baleIn bs)
 
--- the library's checks of what the file says, and the verdict on a file that is not bad
+-- the library's checks of what the file says
 abbrev callChecks : List ℕ → List Check
 callChecks bs = checks (settingsOfWords (words bs)) buffers (baleIn bs)
-
-abbrev wholeVerdict : List ℕ → Verdict
-wholeVerdict bs = orRefused 1 (lowestPlace (overProgram bs ∷ [])) (verdict (settingsOfWords (words bs)) buffers (baleIn bs))
 
 module _ (bs : List ℕ) where
   abbrev before : ℕ → ℕ
@@ -173,16 +171,9 @@ module _ (bs : List ℕ) where
 
   -- ---- the program's table
 
-  abbrev pub fileVerdict : Verdict
-  fileVerdict = orRefused 9 (badWord bs) (wholeVerdict bs)
-
-  listing-verdict : listing bs ≡ verdictLines fileVerdict (settingsOfWords (words bs)) (baleIn bs)
-  unfolding listing fileLines orRefused verdictLines
-  listing-verdict = go (badWord bs)
-    where
-      go : (o : Option ℕ) → fileLines o (words bs) ≡ verdictLines (orRefused 9 o (wholeVerdict bs)) (settingsOfWords (words bs)) (baleIn bs)
-      go none = refl
-      go (some i) = refl
+  listing-verdict : listing bs ≡ verdictLines (fileVerdict bs) (settingsOfWords (words bs)) (baleIn bs)
+  unfolding listing
+  listing-verdict = refl
 
   -- number 1 is one check, of what the program takes and of what the library does
   abbrev fileChecks : List Check
@@ -196,7 +187,8 @@ module _ (bs : List ℕ) where
   one-check false true v = refl
   one-check false false v = refl
 
-  file-first : fileVerdict ≡ firstOf fileChecks
+  file-first : fileVerdict bs ≡ firstOf fileChecks
+  unfolding fileVerdict
   file-first =
       (λ i. orRefused 9 (bad-lowest i) (orRefused 1 (lowestPlace (overProgram bs ∷ [])) (verdict-first (settingsOfWords (words bs)) buffers (baleIn bs) i)))
       ∙ ap (orRefused 9 (lowestPlace (fileTests bs))) (one-check (overProgram bs) (overLibrary bs) (firstOf (drop 1 (callChecks bs))))
@@ -237,13 +229,12 @@ module _ (bs : List ℕ) where
       go zero (suc q) e t = absurd (false≢true t)
       go (suc k) q e t = (suc (suc k), e, t)
 
-  said : {v : Verdict} → fileVerdict ≡ v → listing bs ≡ verdictLines v (settingsOfWords (words bs)) (baleIn bs)
+  said : {v : Verdict} → fileVerdict bs ≡ v → listing bs ≡ verdictLines v (settingsOfWords (words bs)) (baleIn bs)
   said e = listing-verdict ∙ ap (λ (v : Verdict). verdictLines v (settingsOfWords (words bs)) (baleIn bs)) e
 
   pub file-listing : FileListed bs
   unfolding verdictLines
   file-listing =
-      record {
-        refuses = λ n p h. said (refused-exactly (9 ∷ range 1 8) (FileFails bs) fileChecks fileVerdict file-first refl file-row file-listed n p .1 h);
-        answers = λ h. said (accepted-exactly (9 ∷ range 1 8) (FileFails bs) fileChecks fileVerdict file-first refl file-row file-listed .1 h);
-      }
+      let r = refused-exactly (9 ∷ range 1 8) (FileFails bs) fileChecks (fileVerdict bs) file-first refl file-row file-listed in
+      let a = accepted-exactly (9 ∷ range 1 8) (FileFails bs) fileChecks (fileVerdict bs) file-first refl file-row file-listed in
+      record { refused-at = r; accepted-as = a; refuses = λ n p h. said (r n p .1 h); answers = λ h. said (a .1 h) }

@@ -34,3 +34,6 @@ pub use Rattle.graph_laws.specs.GoodFile.{none-bad}
 pub use Rattle.message_bounds.specs.Beliefs.{beliefs-in-unit}
 pub use Rattle.message_bounds.specs.Amounts.{run-amounts, endings-bounded}
 pub use Rattle.message_bounds.specs.Printed.{beliefs-printable, endings-printable, printed-same}
+-- A shift's input is cut into bales in one way only, each up to its end word, and each is listed as if it were run singly.
+pub use Rattle.claims.specs.ShiftCut.{NoEnd, EndedBale, OpenBale, EndedButLast, CutIntoBales, AtBaleEnd, CutsJoined, AllGood, ShiftListed}
+pub use Rattle.shift_laws.specs.Listed.{cut-into-bales, cuts-joined, shift-listed}

@@ -1,0 +1,20 @@
+-- What a bale file is answered, its lines apart: the program's own checks come before the library's (document 01, 'The bale file').
+use Prim.Native.Nat.{ℕ}
+use mathlib.Core.List.{List, [], _∷_}
+use Rattle.definition.specs.Refusals.{Buffers, Verdict, tooMany, leastBuffers, orRefused, lowestPlace, verdict}
+use Rattle.definition.specs.Call.{Lent, Result, resultOf}
+use Rattle.definition.specs.BaleFile.{words, badWord, settingsOfWords, baleOfWords}
+
+-- The program lends what 24 grades, 24 markers and 140 pairs need, which is the most it takes.
+abbrev pub buffers : Buffers
+buffers = leastBuffers 24 24 140
+
+-- number 9, then the program's own number 1, then the call's
+unfoldable pub fileVerdict : List ℕ → Verdict
+fileVerdict bs =
+    let b = baleOfWords (words bs) in
+    orRefused 9 (badWord bs) (orRefused 1 (lowestPlace (tooMany 24 24 140 b ∷ [])) (verdict (settingsOfWords (words bs)) buffers b))
+
+-- the outcome, and what the lent buffers hold afterwards
+unfoldable pub fileResult : List ℕ → Lent → Result
+fileResult bs l = resultOf (fileVerdict bs) (settingsOfWords (words bs)) (baleOfWords (words bs)) l
