@@ -4,21 +4,14 @@ ghost use mathlib.Core.List.{List, []};
 ghost use Prim.Native.Nat.{ℕ, _≤_};
 ghost use lib.ListN.{length};
 ghost use Rattle.definition.specs.Call.{overwrite};
-ghost use Rattle.bale_listing.specs.Taken.{TakenIn, SomeTakenIn};
-ghost use Rattle.bale.specs.Program.{Came, cameBy, afterRead, phaseOf, isReading, listingOf};
-ghost use Rattle.bale.specs.Taking.{HoldsInput, SomeHeld, readCall};
-use bale_listing::Input;
-
-// The most bytes that are taken in: input without end that has no bad word would not end otherwise.
-const MOST_BYTES: u64 = 4294967296;
-
-// Whether there is more to read, and if not why: all was read that counts, or too much, or a read failed.
-pub enum Phase {
-    Reading,
-    Whole,
-    TooLong,
-    Unreadable,
-}
+ghost use Rattle.bale_answer.specs.Taken.{TakenIn, SomeTakenIn};
+ghost use Rattle.streams.specs.Reads.{readCall};
+ghost use Rattle.streams.specs.Input.{Came, afterRead, cameBy, isReading};
+ghost use Rattle.bale.specs.Program.{decided, listingOf};
+ghost use Rattle.bale.specs.Taking.{HoldsInput, SomeHeld};
+use bale_answer::Input;
+use streams::Phase;
+use streams::is_reading;
 
 pub struct Taking {
     pub input: Input,
@@ -27,39 +20,21 @@ pub struct Taking {
 
 // Before the first read.
 pub fn begin() -> Taking
-    ensures { λ r. ⌜ ((ms ps : List ℕ) → length ms ≡ 24 → length ps ≡ 140 → HoldsInput (cameBy []) r ms ps) ⌝ }
+    ensures { λ r. ⌜ ((ms ps : List ℕ) → length ms ≡ 24 → length ps ≡ 140 → HoldsInput (cameBy decided []) r ms ps) ⌝ }
 {
-    let input = bale_listing::begin();
+    let input = bale_answer::begin();
     Taking {
         input: input,
         phase: Phase::Reading,
     }
 }
 
-pub fn is_reading(taking: Taking) -> bool
+// Whether there is more to read.
+pub fn is_going(taking: Taking) -> bool
     ensures { λ r. ⌜ r ≡ isReading (taking .phase) ⌝ }
 {
     let phase = taking.phase;
-    match phase {
-        Phase::Reading => true,
-        Phase::Whole => false,
-        Phase::TooLong => false,
-        Phase::Unreadable => false,
-    }
-}
-
-// Where bytes came.
-fn phase_of(input: Input) -> Phase
-    ensures { λ r. ⌜ ((bs ms ps : List ℕ) → TakenIn bs input ms ps → r ≡ phaseOf bs) ⌝ }
-{
-    if MOST_BYTES < input.bytes {
-        return Phase::TooLong;
-    }
-    let decoder = input.decoder;
-    if bale_listing::is_decided(decoder) {
-        return Phase::Whole;
-    }
-    Phase::Reading
+    is_reading(phase)
 }
 
 // What a `read` gave that answered `got` and left this in its buffer.
@@ -72,23 +47,12 @@ pub fn take_read(
 ) -> Taking
     requires { ⌜ SomeTakenIn input (now markers) (now pairs) ⌝ }
     requires { ⌜ (input .bytes ≤ 4294967296) × (length (now buffer) ≤ 65536) ⌝ }
-    ensures { λ r. ⌜ ((bs : List ℕ) → TakenIn bs input (now (markers .entry)) (now (pairs .entry)) → HoldsInput (afterRead (readCall got (now (buffer .entry))) bs) r (now (markers .exit)) (now (pairs .exit))) ⌝ }
+    ensures { λ r. ⌜ ((bs : List ℕ) → TakenIn bs input (now (markers .entry)) (now (pairs .entry)) → HoldsInput (afterRead decided (readCall got (now (buffer .entry))) bs) r (now (markers .exit)) (now (pairs .exit))) ⌝ }
 {
-    if got < 0 {
-        return Taking {
-            input: input,
-            phase: Phase::Unreadable,
-        };
-    }
     let n = io::count(got, buffer);
-    if n == 0 {
-        return Taking {
-            input: input,
-            phase: Phase::Whole,
-        };
-    }
-    let taken = bale_listing::take_piece(input, &buffer[..n], markers, pairs);
-    let phase = phase_of(taken);
+    let taken = bale_answer::take_piece(input, &buffer[..n], markers, pairs);
+    let enough = bale_answer::is_decided(taken.decoder);
+    let phase = streams::phase_after(got, n, taken.bytes, enough);
     Taking {
         input: taken,
         phase: phase,
@@ -105,8 +69,17 @@ pub fn put_listing(taking: Taking, markers: &[u32], pairs: &[u32], out: &mut [u8
     let phase = taking.phase;
     match phase {
         Phase::Whole => {
+            let mut work_floats = [0.0; 16128];
+            let mut work_numbers = [0; 16128];
             let decoder = input.decoder;
-            bale_listing::list_bale(decoder, markers, pairs, out)
+            bale_listing::list_bale(
+                decoder,
+                markers,
+                pairs,
+                &mut work_floats,
+                &mut work_numbers,
+                out,
+            )
         }
         Phase::Reading => 0,
         Phase::TooLong => 0,

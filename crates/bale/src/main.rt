@@ -1,4 +1,4 @@
-// Reads a bale file from standard input and writes its listing to standard output. A read that fails and an input of over MOST_BYTES bytes end it with a
+// Reads a bale file from standard input and writes its listing to standard output. A read that fails and an input of over 2^32 bytes end it with a
 // line on standard error and no listing, a write that fails with such a line. There is no exit status to set.
 //
 // What is proved: it ends on every input, if `read` and `write` return; what is taken in of each `read` is what that call gave, by its answer and by its
@@ -12,15 +12,15 @@ ghost use Rattle.bale.specs.Taking.{SomeHeld, ReadBy, ListingHanded};
 
 mod input;
 
-use crate::input::Phase;
 use crate::input::Taking;
 use crate::input::begin;
-use crate::input::is_reading;
+use crate::input::is_going;
 use crate::input::put_listing;
 use crate::input::take_read;
 use libc::STDERR_FILENO;
 use libc::STDIN_FILENO;
 use libc::STDOUT_FILENO;
+use streams::Phase;
 use streams::hand_over;
 
 // Reads to the end of the input, or until no further byte counts.
@@ -30,7 +30,7 @@ fn read_input(markers: &mut [u32], pairs: &mut [u32]) -> Taking
 {
     let mut buffer = io::large_buffer();
     let mut taking = begin();
-    while is_reading(taking) {
+    while is_going(taking) {
         let input = taking.input;
         let got = libc::read(STDIN_FILENO, &mut buffer);
         taking = take_read(input, got, &buffer, markers, pairs);

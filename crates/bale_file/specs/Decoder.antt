@@ -1,11 +1,13 @@
 -- The decoder over bytes: the model of what it is fed and of what it finds.
-use Prim.Native.Nat.{ℕ, zero, suc, _+_, _*_}
-use mathlib.Core.Bool.{Bool, false, cond, not, _&&_}
+use Prim.Native.Nat.{ℕ, zero, suc, _+_}
+use mathlib.Core.Bool.{Bool, true, false, cond, not, _&&_}
 use mathlib.Core.Option.{Option, none, some}
 use mathlib.Core.List.{List, [], _∷_}
-use lib.Dec.{eqb}
+use lib.Dec.{eqb, leb}
+use Rattle.definition.specs.BaleFile.{wordOf, wordKind}
 use Rattle.bale_file.specs.declared.reading.Reading.{Reading}
 use Rattle.bale_file.specs.declared.decoder.Decoder.{Decoder}
+use Rattle.bale_file.specs.declared.decoder.FedBale.{FedBale}
 use Rattle.bale_file.specs.declared.decoder.File.{File}
 use Rattle.bale_file.specs.declared.decoder.File.the-variants.{Bad, Good}
 use Rattle.bale_file.specs.Reading.{Held, heldOf, readWord}
@@ -42,7 +44,7 @@ fedAt (suc zero) x f = let d = f .decoder in fedOf (decoderOf (d .reading) 2 (d 
 fedAt (suc (suc zero)) x f = let d = f .decoder in fedOf (decoderOf (d .reading) 3 (d .first) (d .second) x) (f .markers) (f .pairs)
 fedAt (suc (suc (suc n))) x f =
     let d = f .decoder in
-    fedHeld (readWord (d .first + 256 * d .second + 65536 * d .third + 16777216 * x) (heldIn f)) 0 (d .first) (d .second) (d .third)
+    fedHeld (readWord (wordOf (d .first) (d .second) (d .third) x) (heldIn f)) 0 (d .first) (d .second) (d .third)
 
 unfoldable pub fedByte : ℕ → Fed → Fed
 fedByte x f = fedAt (f .decoder .filled) x f
@@ -50,6 +52,31 @@ fedByte x f = fedAt (f .decoder .filled) x f
 unfoldable pub fed : List ℕ → Fed → Fed
 fed [] f = f
 fed (x ∷ xs) f = fed xs (fedByte x f)
+
+-- ---- up to an end word
+
+-- whether a byte completes a word of kind 6
+unfoldable pub endsBale : ℕ → Decoder → Bool
+endsBale x d = leb 3 (d .filled) && eqb (wordKind (wordOf (d .first) (d .second) (d .third) x)) 6
+
+-- what was fed, how many bytes, and whether the last of them ended a bale
+pub record FedTo : Type 0 where
+  pub fedTo : Fed
+  pub used : ℕ
+  pub ended : Bool
+
+abbrev pub fedBaleOf : FedBale → List ℕ → List ℕ → FedTo
+fedBaleOf r ms ps = record { fedTo = fedOf (r .decoder) ms ps; used = r .used; ended = r .ended }
+
+-- the same, counted from n bytes before
+abbrev pub behind : ℕ → FedTo → FedTo
+behind n r = record { fedTo = r .fedTo; used = n + r .used; ended = r .ended }
+
+unfoldable pub fedBale : List ℕ → Fed → FedTo
+fedBale [] f = record { fedTo = f; used = 0; ended = false }
+fedBale (x ∷ xs) f =
+    let g = fedByte x f in
+    cond (endsBale x (f .decoder)) (record { fedTo = g; used = 1; ended = true }) (behind 1 (fedBale xs g))
 
 -- ---- the end of the input
 

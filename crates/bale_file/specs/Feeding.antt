@@ -1,13 +1,17 @@
 -- Bytes fed one by one: each step of the decoder, and that cutting the input changes nothing.
-use Prim.Native.Nat.{ℕ, zero, suc, _+_, _*_, _<_}
+use Prim.Native.Nat.{ℕ, zero, suc, _+_, _≤_, _<_}
+use native.Mathlib.Nat.{add-zero}
 use native.Mathlib.Numerals.{add-one}
+use native.Mathlib.Omega.{arith}
 use mathlib.Core.Path.{_≡_, refl, sym, ap, _∙_}
+use mathlib.Core.Bool.{true, false}
 use mathlib.Core.List.{List, [], _∷_, _++_}
-use lib.ListN.{length, drop, getD}
+use lib.ListN.{length, drop, getD, drop-of-length-le}
 use lib.Seq.{drop-cons}
+use Rattle.definition.specs.BaleFile.{wordOf}
 use Rattle.bale_file.specs.declared.decoder.Decoder.{Decoder}
 use Rattle.bale_file.specs.Reading.{Held, readWord}
-use Rattle.bale_file.specs.Decoder.{Fed, fedOf, started, fedHeld, heldIn, fedAt, fedByte, fed}
+use Rattle.bale_file.specs.Decoder.{Fed, fedOf, started, fedHeld, heldIn, fedAt, fedByte, fed, FedTo, endsBale, behind, fedBale}
 
 at-fourth :
     (n x : ℕ) (f : Fed) →
@@ -27,7 +31,7 @@ pub fourth :
     (f .decoder .filled ≡ 0 → ⊥) →
     (f .decoder .filled ≡ 1 → ⊥) →
     (f .decoder .filled ≡ 2 → ⊥) →
-    w ≡ f .decoder .first + 256 * f .decoder .second + 65536 * f .decoder .third + 16777216 * x →
+    w ≡ wordOf (f .decoder .first) (f .decoder .second) (f .decoder .third) x →
     h ≡ readWord w (heldIn f) →
     fedHeld h 0 (f .decoder .first) (f .decoder .second) (f .decoder .third) ≡ fedByte x f
 unfolding fedAt fedByte
@@ -52,3 +56,36 @@ fed-start d ms ps e = ap (λ (x : Decoder). fedOf x ms ps) e
 
 pub fed-more : (a b : List ℕ) (f g h : Fed) → g ≡ fed a f → h ≡ fed b g → h ≡ fed (a ++ b) f
 fed-more a b f g h p q = q ∙ ap (fed b) p ∙ sym (fed-append a b f)
+
+-- ---- up to an end word
+
+pub bale-ends : (x : ℕ) (xs : List ℕ) (f : Fed) → endsBale x (f .decoder) ≡ true → fedBale (x ∷ xs) f ≡ record { fedTo = fedByte x f; used = 1; ended = true }
+unfolding fedBale
+bale-ends x xs f e = rw e
+
+pub bale-goes-on : (x : ℕ) (xs : List ℕ) (f : Fed) → endsBale x (f .decoder) ≡ false → fedBale (x ∷ xs) f ≡ behind 1 (fedBale xs (fedByte x f))
+unfolding fedBale
+bale-goes-on x xs f e = rw e
+
+pub behind-behind : (n k : ℕ) (r : FedTo) → behind n (behind k r) ≡ behind (n + k) r
+behind-behind n k r =
+    let e : n + (k + r .used) ≡ n + k + r .used = omega arith in
+    ap (λ (u : ℕ). record { fedTo = r .fedTo; used = u; ended = r .ended }) e
+
+abbrev on : ℕ → List ℕ → Fed → FedTo
+on i xs f = behind i (fedBale (drop i xs) f)
+
+-- a loop over the bytes: where all are fed, at the byte that ends the bale, and at any other
+pub all-fed : (xs : List ℕ) (i : ℕ) (f : Fed) → length xs ≤ i → record { fedTo = f; used = i; ended = false } ≡ on i xs f
+unfolding fedBale
+all-fed xs i f l = rw (drop-of-length-le xs l, add-zero i)
+
+module _ (xs : List ℕ) (i : ℕ) (f g : Fed) (l : i < length xs) (e : g ≡ fedByte (getD xs i 0) f) where
+  abbrev x : ℕ
+  x = getD xs i 0
+
+  pub bale-fed : endsBale x (f .decoder) ≡ true → record { fedTo = g; used = i + 1; ended = true } ≡ on i xs f
+  bale-fed h = rw (drop-cons xs i 0 l, bale-ends x (drop (suc i) xs) f h, e)
+
+  pub bale-next : endsBale x (f .decoder) ≡ false → on (i + 1) xs g ≡ on i xs f
+  bale-next h = rw (drop-cons xs i 0 l, bale-goes-on x (drop (suc i) xs) f h, e, behind-behind i 1 (fedBale (drop (suc i) xs) (fedByte x f)), add-one i)

@@ -1,8 +1,13 @@
 // The decoder: a state by value that is fed ranges of bytes, and what it finds does not depend on where the input is cut.
 ghost use mathlib.Core.Path.{_≡_};
-ghost use Rattle.bale_file.specs.Decoder.{started, fedOf, fedByte, fed, fileOf, finished};
+ghost use mathlib.Core.List.{List};
+ghost use Prim.Native.Nat.{ℕ};
+ghost use Rattle.claims.specs.ShiftCut.{NoEnd};
+ghost use Rattle.bale_file.specs.FirstBale.{FirstBale};
+ghost use Rattle.bale_file.specs.Decoder.{started, fedOf, fedByte, fed, endsBale, fedBaleOf, fedBale, fileOf, finished};
 use crate::reading::Reading;
 use crate::reading::read_word;
+use crate::word::kind_of;
 use crate::word::word_of;
 
 pub struct Decoder {
@@ -12,6 +17,13 @@ pub struct Decoder {
     pub first: u8,
     pub second: u8,
     pub third: u8,
+}
+
+// What was fed of a range that may go on behind the end of a bale: how many bytes, and whether they end in an end word.
+pub struct FedBale {
+    pub decoder: Decoder,
+    pub used: usize,
+    pub ended: bool,
 }
 
 // The place of number 9, if the file has one.
@@ -80,6 +92,45 @@ pub fn feed(decoder: Decoder, bytes: &[u8], markers: &mut [u32], pairs: &mut [u3
         i += 1;
     }
     d
+}
+
+// Whether the next byte completes a word of kind 6. What was read before does not matter, nor do its other bits.
+fn ends_bale(decoder: Decoder, byte: u8) -> bool
+    ensures { λ r. ⌜ r ≡ endsBale byte decoder ⌝ }
+{
+    if decoder.filled < 3 {
+        return false;
+    }
+    let word = word_of(decoder.first, decoder.second, decoder.third, byte);
+    kind_of(word) == 6
+}
+
+// As `feed`, up to the first end word if one is there: what follows it is another bale's. So it consumes exactly the first bale of what is left, however
+// the input was cut.
+pub fn feed_bale(decoder: Decoder, bytes: &[u8], markers: &mut [u32], pairs: &mut [u32]) -> FedBale
+    ensures { λ r. ⌜ fedBaleOf r (now (markers .exit)) (now (pairs .exit)) ≡ fedBale (now (bytes .entry)) (fedOf decoder (now (markers .entry)) (now (pairs .entry))) ⌝ }
+    ensures { λ r. ⌜ ((bs ms ps : List ℕ) → NoEnd bs → fedOf decoder (now (markers .entry)) (now (pairs .entry)) ≡ fed bs (fedOf started ms ps) → FirstBale bs (now (bytes .entry)) r) ⌝ }
+{
+    let mut d = decoder;
+    let mut i = 0;
+    while i < bytes.len() {
+        let byte = bytes[i];
+        let ends = ends_bale(d, byte);
+        d = feed_byte(d, byte, markers, pairs);
+        i += 1;
+        if ends {
+            return FedBale {
+                decoder: d,
+                used: i,
+                ended: true,
+            };
+        }
+    }
+    FedBale {
+        decoder: d,
+        used: i,
+        ended: false,
+    }
 }
 
 // At the end of the input: a missing end or bytes that make no whole word are bad too.

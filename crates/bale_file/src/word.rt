@@ -1,11 +1,11 @@
 // A word of the bale file: its kind in bits 31 to 29, its fields below.
 ghost use mathlib.Core.Path.{_≡_};
-ghost use Prim.Native.Nat.{_+_, _*_, _^_};
-ghost use Rattle.definition.specs.BaleFile.{wordKind, fieldWidth, cleanWord, mayFollow};
+ghost use Prim.Native.Nat.{_^_};
+ghost use Rattle.definition.specs.BaleFile.{wordOf, wordKind, fieldWidth, cleanWord, mayFollow};
 
 // Four bytes, the lowest first.
 pub fn word_of(a: u8, b: u8, c: u8, d: u8) -> u32
-    ensures { λ r. ⌜ r ≡ a + 256 * b + 65536 * c + 16777216 * d ⌝ }
+    ensures { λ r. ⌜ r ≡ wordOf a b c d ⌝ }
 {
     a as u32 + 256 * (b as u32) + 65536 * (c as u32) + 16777216 * (d as u32)
 }

@@ -1,7 +1,5 @@
--- What was taken in of the input (Taken), what the listing is by cases (Cases), and what the decoder and the call have to do with it (Good, Answered).
-pub mod Cases
-pub mod Taken
-pub mod Checks
+-- What a listing leaves (Lent), of which bale (Next), and what the call has to do with it (Fits, Answered).
+pub mod Lent
+pub mod Next
 pub mod Fits
 pub mod Answered
-pub mod Good

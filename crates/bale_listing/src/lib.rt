@@ -1,11 +1,8 @@
-// What the program `bale` does with slices: it takes in the input piece by piece, and makes its listing.
-mod answer;
+// The listing of a bale, and of bales that follow one another, in a lent buffer.
 mod bale;
-mod input;
-mod refusals;
+mod next;
 
 pub use bale::list_bale;
-pub use input::Input;
-pub use input::begin;
-pub use input::is_decided;
-pub use input::take_piece;
+pub use next::Listed;
+pub use next::list_last;
+pub use next::list_next;

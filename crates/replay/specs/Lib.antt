@@ -1,3 +1,4 @@
--- When bytes are the same, and what is counted over a list.
+-- When bytes are the same (Same, and of a shift Told), and what is counted over a list (Entries).
 pub mod Same
+pub mod Told
 pub mod Entries

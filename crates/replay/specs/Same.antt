@@ -1,16 +1,14 @@
--- When two lists of bytes are the same.
-use Prim.Native.Nat.{ℕ, _+_, _≤_, _<_}
+-- When two lists of bytes are the same, and when one begins with the other.
+use Prim.Native.Nat.{ℕ, suc, _+_, _≤_, _<_}
 use native.Mathlib.Omega.{arith}
-use native.Mathlib.Decide.{decLt}
-use mathlib.Core.Path.{_≡_, refl, sym}
-use mathlib.Core.Logic.{by-cases}
+use mathlib.Core.Path.{_≡_, refl, ap, _∙_}
 use mathlib.Core.Bool.{Bool, true, false, _&&_, false≢true}
-use mathlib.Core.List.{List, [], _∷_}
+use mathlib.Core.List.{List, [], _∷_, _++_}
 use lib.Dec.{eqb}
-use lib.ListN.{length, getD}
-use lib.Seq.{ext-getD}
-use borrow.Author.Tests.{eqb-true, eq-eqb}
-use Rattle.graph_laws.specs.Bools.{and-left, and-right, not-true}
+use lib.ListN.{length, getD, drop, drop-of-length-le}
+use lib.Seq.{drop-cons}
+use borrow.Author.Tests.{eq-eqb, ne-eqb}
+use Rattle.graph_laws.specs.Bools.{and-right, not-true}
 
 unfoldable pub sameBytes : List ℕ → List ℕ → Bool
 sameBytes [] [] = true
@@ -18,29 +16,74 @@ sameBytes [] (y ∷ ys) = false
 sameBytes (x ∷ xs) [] = false
 sameBytes (x ∷ xs) (y ∷ ys) = eqb x y && sameBytes xs ys
 
--- true exactly of equal lists
-pub same-equal : (a b : List ℕ) → sameBytes a b ≡ true → a ≡ b
+-- whether the second begins with the first
+unfoldable pub startsWith : List ℕ → List ℕ → Bool
+startsWith [] ys = true
+startsWith (x ∷ xs) [] = false
+startsWith (x ∷ xs) (y ∷ ys) = eqb x y && startsWith xs ys
+
+-- ---- of other lengths
+
+same-long : (a b : List ℕ) → sameBytes a b ≡ true → length a ≡ length b
 unfolding sameBytes
-same-equal [] [] h = refl
-same-equal [] (y ∷ ys) h = absurd (false≢true h)
-same-equal (x ∷ xs) [] h = absurd (false≢true h)
-same-equal (x ∷ xs) (y ∷ ys) h = cc (eqb-true x y (and-left (eqb x y) (sameBytes xs ys) h), same-equal xs ys (and-right (eqb x y) (sameBytes xs ys) h))
+same-long [] [] h = refl
+same-long [] (y ∷ ys) h = absurd (false≢true h)
+same-long (x ∷ xs) [] h = absurd (false≢true h)
+same-long (x ∷ xs) (y ∷ ys) h = ap suc (same-long xs ys (and-right (eqb x y) (sameBytes xs ys) h))
 
-pub same-self : (a : List ℕ) → sameBytes a a ≡ true
-unfolding sameBytes
-same-self [] = refl
-same-self (x ∷ xs) = rw (eq-eqb x x refl) (same-self xs)
+pub other-length : (a b : List ℕ) → (length a ≡ length b → ⊥) → sameBytes a b ≡ false
+other-length a b h = not-true (sameBytes a b) (λ e. h (same-long a b e))
 
-pub equal-same : (a b : List ℕ) → a ≡ b → sameBytes a b ≡ true
-equal-same a b e = rw (sym e) (same-self a)
+pub starts-fits : (a b : List ℕ) → startsWith a b ≡ true → length a ≤ length b
+unfolding startsWith
+starts-fits [] ys h = omega arith
+starts-fits (x ∷ xs) [] h = absurd (false≢true h)
+starts-fits (x ∷ xs) (y ∷ ys) h = let k = starts-fits xs ys (and-right (eqb x y) (startsWith xs ys) h) in omega arith
 
-pub unequal : (a b : List ℕ) → (a ≡ b → ⊥) → sameBytes a b ≡ false
-unequal a b h = not-true (sameBytes a b) (λ e. h (same-equal a b e))
+pub too-short : (a b : List ℕ) → length b < length a → startsWith a b ≡ false
+too-short a b h = not-true (startsWith a b) (λ e. let k = starts-fits a b e in let z : ⊥ = omega arith in z)
+
+-- ---- one from the other
+
+pub same-length-starts : (a b : List ℕ) → length a ≡ length b → startsWith a b ≡ sameBytes a b
+unfolding sameBytes startsWith
+same-length-starts [] [] h = refl
+same-length-starts [] (y ∷ ys) h = absurd (let z : ⊥ = omega arith in z)
+same-length-starts (x ∷ xs) [] h = absurd (let z : ⊥ = omega arith in z)
+same-length-starts (x ∷ xs) (y ∷ ys) h = ap (λ (t : Bool). eqb x y && t) (same-length-starts xs ys (omega arith))
+
+-- the front, and then the rest
+pub same-joined : (a b text : List ℕ) → sameBytes (a ++ b) text ≡ startsWith a text && sameBytes b (drop (length a) text)
+unfolding sameBytes startsWith
+same-joined [] b text = refl
+same-joined (x ∷ xs) b [] = refl
+same-joined (x ∷ xs) b (y ∷ ys) = go (eqb x y) (same-joined xs b ys)
+  where
+    go : (t : Bool) → sameBytes (xs ++ b) ys ≡ startsWith xs ys && sameBytes b (drop (length xs) ys)
+        → (t && sameBytes (xs ++ b) ys) ≡ (t && startsWith xs ys) && sameBytes b (drop (length xs) ys)
+    go true e = e
+    go false e = refl
 
 -- ---- compared one by one
 
-pub same-more : (a b : List ℕ) (i : ℕ) → ((j : ℕ) → j < i → getD a j 0 ≡ getD b j 0) → getD a i 0 ≡ getD b i 0 → (j : ℕ) → j < i + 1 → getD a j 0 ≡ getD b j 0
-same-more a b i h e j q = by-cases (decLt j i) (λ (z : j < i). h j z) (λ z. let y : j ≡ i = omega arith in rw y e)
+compared : (a b : List ℕ) (i : ℕ) → i < length a → length a ≤ length b
+    → startsWith (drop i a) (drop i b) ≡ (eqb (getD a i 0) (getD b i 0) && startsWith (drop (i + 1) a) (drop (i + 1) b))
+unfolding startsWith
+compared a b i h k =
+    let e : suc i ≡ i + 1 = omega arith in
+    (λ j. startsWith (drop-cons a i 0 h j) (drop-cons b i 0 (omega arith) j))
+    ∙ ap (λ (n : ℕ). eqb (getD a i 0) (getD b i 0) && startsWith (drop n a) (drop n b)) e
 
-pub same-all : (a b : List ℕ) (i : ℕ) → length a ≡ length b → ((j : ℕ) → j < i → getD a j 0 ≡ getD b j 0) → length a ≤ i → a ≡ b
-same-all a b i e h k = ext-getD 0 a b e (λ j q. h j (omega arith))
+pub starts-next : (a b : List ℕ) (i : ℕ) → i < length a → length a ≤ length b → getD a i 0 ≡ getD b i 0
+    → startsWith (drop i a) (drop i b) ≡ startsWith (drop (i + 1) a) (drop (i + 1) b)
+starts-next a b i h k e =
+    compared a b i h k ∙ ap (λ (t : Bool). t && startsWith (drop (i + 1) a) (drop (i + 1) b)) (eq-eqb (getD a i 0) (getD b i 0) e)
+
+pub starts-not : (a b : List ℕ) (i : ℕ) → i < length a → length a ≤ length b → (getD a i 0 ≡ getD b i 0 → ⊥)
+    → startsWith (drop i a) (drop i b) ≡ false
+starts-not a b i h k e =
+    compared a b i h k ∙ ap (λ (t : Bool). t && startsWith (drop (i + 1) a) (drop (i + 1) b)) (ne-eqb (getD a i 0) (getD b i 0) e)
+
+pub starts-all : (a b : List ℕ) (i : ℕ) → length a ≤ i → startsWith (drop i a) (drop i b) ≡ true
+unfolding startsWith
+starts-all a b i h = ap (λ (l : List ℕ). startsWith l (drop i b)) (drop-of-length-le a h)

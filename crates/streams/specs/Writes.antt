@@ -2,8 +2,9 @@
 use Prim.Native.Nat.{ℕ, _+_, _-_, _≤_, _<_}
 use native.Mathlib.Omega.{arith}
 use mathlib.Core.Path.{_≡_, refl, sym, _∙_, ap}
+use mathlib.Core.Logic.{_⊎_, inl, inr}
 use mathlib.Core.Bool.{Bool, true, false}
-use mathlib.Core.List.{List, [], _∷_}
+use mathlib.Core.List.{List, [], _∷_, _++_}
 use lib.IntN.{ℤ}
 use lib.ListN.{length, take, drop, length-drop, drop-of-length-le}
 use lib.Seq.{drop-drop}
@@ -78,3 +79,37 @@ module _ (text : List ℕ) (done : ℕ) (h : Handed text done) (a : ℤ) where
 
 pub handed-all : (text : List ℕ) (done : ℕ) → Handed text done → length text ≤ done → HandedOver text true
 handed-all text done h l = record { answers = h .answers; answered = h .answered; ended = h .left ∙ drop-of-length-le text l }
+
+-- ---- texts one after the other
+
+-- each is handed over whole, in this order; or one of them is not, and those before it are
+abbrev pub HandedInOrder : List (List ℕ) → Bool → Type 0
+HandedInOrder [] true = Unit {0}
+HandedInOrder [] false = ⊥
+HandedInOrder (t ∷ ts) true = HandedOver t true × HandedInOrder ts true
+HandedInOrder (t ∷ ts) false = HandedOver t false ⊎ (HandedOver t true × HandedInOrder ts false)
+
+pub handed-one : (t : List ℕ) (all : Bool) → HandedOver t all → HandedInOrder (t ∷ []) all
+handed-one t true h = (h, tt)
+handed-one t false h = inl h
+
+module _ (us : List (List ℕ)) where
+  pub handed-then : (ts : List (List ℕ)) (all : Bool) → HandedInOrder ts true → HandedInOrder us all → HandedInOrder (ts ++ us) all
+  handed-then [] all h g = g
+  handed-then (t ∷ ts) true h g = (h .0, handed-then ts true (h .1) g)
+  handed-then (t ∷ ts) false h g = inr (h .0, handed-then ts false (h .1) g)
+
+  -- none behind one that did not go
+  pub handed-not : (ts : List (List ℕ)) → HandedInOrder ts false → HandedInOrder (ts ++ us) false
+  handed-not [] h = absurd h
+  handed-not (t ∷ ts) (inl h) = inl h
+  handed-not (t ∷ ts) (inr h) = inr (h .0, handed-not ts (h .1))
+
+-- of no byte all goes
+pub handed-empty : (all : Bool) → HandedOver [] all → all ≡ true
+handed-empty true h = refl
+handed-empty false h = absurd (omega (arith, h .ended .0, ap length (none-left (h .answers))))
+  where
+    none-left : (bs : List ℤ) → leftOf [] bs ≡ []
+    none-left [] = refl
+    none-left (a ∷ bs) = rw (none-left bs) (drop-of-length-le [] {i = clamped a 0} (omega arith))

@@ -6,8 +6,8 @@ use borrow.Author.Needs.{needs}
 use Rattle.replay.proofs.read_entry.Statement.{statement}
 use Rattle.replay.proofs.read_entry.Tie as tie
 
-read-length-requires : tie.Need-read-length-requires
-read-length-requires c κs = search needs
+read-head-requires : tie.Need-read-head-requires
+read-head-requires c κs = search needs
 
 returns : tie.Need-returns
 returns c = search needs
@@ -16,13 +16,13 @@ slice-relend-prefix-read-full : tie.Need-slice-relend-prefix-read-full
 slice-relend-prefix-read-full c = search needs
 
 slice-aggregate-read-full : tie.Need-slice-aggregate-read-full
-slice-aggregate-read-full c = sym (length-take-le _ _ (omega (arith, c .before .before .read-length .ensures, c .before .if1 .left, c .before .before .before .before .before .pre .0)))
+slice-aggregate-read-full c = sym (length-take-le _ _ (omega (arith, c .before .before .read-head .ensures, c .before .if1 .left, c .before .before .before .before .before .pre .0)))
 
 read-full-requires : tie.Need-read-full-requires
 read-full-requires c κs = search needs
 
-read-length-requires-2 : tie.Need-read-length-requires-2
-read-length-requires-2 c κs = search needs
+read-head-requires-2 : tie.Need-read-head-requires-2
+read-head-requires-2 c κs = search needs
 
 same-length : tie.Need-same-length
 same-length c = search needs
@@ -40,7 +40,7 @@ slice-relend-prefix-read-full-2 : tie.Need-slice-relend-prefix-read-full-2
 slice-relend-prefix-read-full-2 c = search needs
 
 slice-aggregate-read-full-2 : tie.Need-slice-aggregate-read-full-2
-slice-aggregate-read-full-2 c = sym (length-take-le _ _ (omega (arith, c .before .before .before .read-length2 .ensures, c .before .if3 .left, c .before .before .before .before .before .before .before .before .before .before .before .before .pre .1)))
+slice-aggregate-read-full-2 c = sym (length-take-le _ _ (omega (arith, c .before .before .before .read-head2 .ensures, c .before .if3 .left, c .before .before .before .before .before .before .before .before .before .before .before .before .pre .1)))
 
 read-full-requires-2 : tie.Need-read-full-requires-2
 read-full-requires-2 c κs = search needs
@@ -67,12 +67,12 @@ pub read-entry-spec : {M : Type 1} → statement M
 read-entry-spec =
     tie.close
     (tie.spec
-    read-length-requires
+    read-head-requires
     returns
     slice-relend-prefix-read-full
     slice-aggregate-read-full
     read-full-requires
-    read-length-requires-2
+    read-head-requires-2
     same-length
     returns-2
     same-length-2

@@ -4,7 +4,7 @@ use Prim.Native.Nat.{_-_}
 use mathlib.Core.Path.{ap, subst}
 use borrow.Author.Needs.{needs}
 use Rattle.replay.specs.declared.Counts.{Counts}
-use Rattle.replay.specs.Entries.{Replayed, differs, Stepped, OneCounted, none-replayed, differ-few, one-replayed, more-bales}
+use Rattle.replay.specs.Entries.{Replayed, differs, Stepped, OneCounted, none-replayed, differ-few, one-replayed, more-files}
 use Rattle.replay.proofs.replay_all.Statement.{statement}
 use Rattle.replay.proofs.replay_all.Tie as tie
 
@@ -12,7 +12,7 @@ abbrev Inv-loop : tie.InvT-loop
 Inv-loop counts₀ counts = Replayed counts
 
 abbrev μ-loop : tie.MeasureT-loop
-μ-loop counts₀ counts = 1000000 - counts .bales
+μ-loop counts₀ counts = 1000000 - counts .files
 
 loop-holds : tie.Need-loop-holds Inv-loop μ-loop
 loop-holds c = none-replayed
@@ -28,7 +28,7 @@ counted : (c : tie.After-known-told Inv-loop μ-loop) → OneCounted (c .before 
 counted c = subst (Stepped (c .before .before .before .before .before .before .loop .counts)) (c .before .step .given .1) (c .before .before .before .replay-next .ensures)
 
 loop-less : tie.Need-loop-less Inv-loop μ-loop
-loop-less c = let l = c .before .before .before .before .before .before .loop in let o = counted c in omega (arith, ap (λ (x : Counts). x .bales) (o .is), more-bales (differs (o .entry)) (l .counts), c .before .before .before .before .if1 .taken)
+loop-less c = let l = c .before .before .before .before .before .before .loop in let o = counted c in omega (arith, ap (λ (x : Counts). x .files) (o .is), more-files (differs (o .entry)) (l .counts), c .before .before .before .before .if1 .taken)
 
 loop-again : tie.Need-loop-again Inv-loop μ-loop
 loop-again c = let l = c .before .before .before .before .before .before .loop in one-replayed (l .counts) _ (l .inv) (c .before .before .before .before .if1 .taken) (counted c)

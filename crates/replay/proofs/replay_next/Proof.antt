@@ -28,7 +28,7 @@ enum-known-read : tie.Need-enum-known-read
 enum-known-read c = search needs
 
 -- the lengths that were read fit the buffers
-fits : (c : tie.After-known-told) → (c .before .read .given .0 .0 ≤ length (c .before .before .before .before .before .read-entry .last .0)) × (c .before .read .given .0 .1 .0 ≤ length (c .before .before .before .before .before .read-entry .last .1 .0))
+fits : (c : tie.After-known-told) → (c .before .read .given .0 .1 .0 ≤ length (c .before .before .before .before .before .read-entry .last .0)) × (c .before .read .given .0 .1 .1 .0 ≤ length (c .before .before .before .before .before .read-entry .last .1 .0))
 fits c =
     let d = c .before .before .before .before .before in
     let f = subst Fits (c .before .read .given .1) (d .read-entry .ensures) in
@@ -49,7 +49,7 @@ slice-aggregate-count-entry-2 c = sym (length-take-le _ _ (fits (c .before .befo
 count-entry-requires : tie.Need-count-entry-requires
 count-entry-requires c κs =
     let d = c .before .before in
-    let e = length-take-le (d .before .read .given .0 .0) (d .before .before .before .before .before .read-entry .last .0) (fits d .0) in
+    let e = length-take-le (d .before .read .given .0 .1 .0) (d .before .before .before .before .before .read-entry .last .0) (fits d .0) in
     (omega (arith, e, subst Fits (d .before .read .given .1) (d .before .before .before .before .before .read-entry .ensures) .0), d .before .before .before .before .before .before .before .before .before .before .pre)
 
 enum-told : tie.Need-enum-told
@@ -65,7 +65,7 @@ returns : tie.Need-returns
 returns c =
     let d = c .before .before .before in
     record {
-      entry = whole (take (d .before .read .given .0 .0) (d .before .before .before .before .before .read-entry .last .0)) (take (d .before .read .given .0 .1 .0) (d .before .before .before .before .before .read-entry .last .1 .0));
+      entry = whole (d .before .read .given .0 .0) (take (d .before .read .given .0 .1 .0) (d .before .before .before .before .before .read-entry .last .0)) (take (d .before .read .given .0 .1 .1 .0) (d .before .before .before .before .before .read-entry .last .1 .0));
       is = c .count-entry .ensures;
     }
 

@@ -8,8 +8,14 @@ use Rattle.bale.proofs.input.put_listing.Tie as tie
 enum-told : tie.Need-enum-told
 enum-told c = search needs
 
+slice-aggregate-list-bale : tie.Need-slice-aggregate-list-bale
+slice-aggregate-list-bale c = search needs
+
+slice-aggregate-list-bale-2 : tie.Need-slice-aggregate-list-bale-2
+slice-aggregate-list-bale-2 c = search needs
+
 list-bale-requires : tie.Need-list-bale-requires
-list-bale-requires c κs = let h = c .before .before .before .before .before .before .before .before .pre .0 in (record { bytes = h .came .bytes; taken = h .holds .taken .taken }, c .before .before .before .before .before .before .before .before .pre .1)
+list-bale-requires c κs = search needs
 
 enum-told-2 : tie.Need-enum-told-2
 enum-told-2 c = search needs
@@ -24,7 +30,9 @@ same-length : tie.Need-same-length
 same-length c = search needs
 
 returns : tie.Need-returns
-returns c = λ x h. rw (listing-is x _ _ _ h _ (c .before .before .before .before .before .enum-told .given .1)) (c .before .before .list-bale .ensures (x .bytes) (h .taken .taken))
+returns c = λ x h.
+    let l = c .before .before .before .before .list-bale .ensures (x .bytes) (h .taken .taken) in
+    rw (listing-is x _ _ _ h _ (c .before .before .before .before .before .before .before .before .before .enum-told .given .1)) (l .text, l .long)
 
 returns-2 : tie.Need-returns-2
 returns-2 c = λ x h. rw (listing-is x _ _ _ h _ (c .enum-told2 .given .1)) (refl, refl)
@@ -40,6 +48,8 @@ put-listing-spec =
     tie.close
     (tie.spec
     enum-told
+    slice-aggregate-list-bale
+    slice-aggregate-list-bale-2
     list-bale-requires
     enum-told-2
     enum-told-3

@@ -1,26 +1,16 @@
 -- `take_read` meets its contract.
-use native.Mathlib.Omega.{arith}
-use mathlib.Core.Path.{sym, _∙_}
+use mathlib.Core.Path.{ap, _∙_}
+use lib.IntN.{ℤ}
 use lib.ListN.{length}
 use borrow.Author.Needs.{needs}
-use Rattle.streams.specs.Answers.{counted-as, negative-as}
-use Rattle.bale.specs.Taking.{held-failed, held-end, held-more}
+use Rattle.streams.specs.Answers.{answer-kept, counted-as}
+use Rattle.streams.specs.Input.{phaseAfter}
+use Rattle.bale.specs.Taking.{held-read}
 use Rattle.bale.proofs.input.take_read.Statement.{statement}
 use Rattle.bale.proofs.input.take_read.Tie as tie
 
-returns : tie.Need-returns
-returns c =
-    let a = c .before .before .before .before in
-    λ bs t. held-failed bs (a .args .buffer .now) _ _ _ t (a .args .got) (negative-as (a .args .got) (a .good .1 .0) _ (c .if1 .taken))
-
 count-requires : tie.Need-count-requires
 count-requires c κs = search needs
-
-returns-2 : tie.Need-returns-2
-returns-2 c =
-    let a = c .before .before .before .before .before .before in
-    λ bs t. held-end bs (a .args .buffer .now) _ _ _ t (a .args .got) (negative-as (a .args .got) (a .good .1 .0) _ (c .before .before .if1 .left))
-    (sym (c .if2 .taken) ∙ counted-as (a .args .got) (a .good .1 .0) (length (a .args .buffer .now)) _ (c .before .count .ensures .1))
 
 slice-aggregate-take-piece : tie.Need-slice-aggregate-take-piece
 slice-aggregate-take-piece c = search needs
@@ -28,8 +18,11 @@ slice-aggregate-take-piece c = search needs
 take-piece-requires : tie.Need-take-piece-requires
 take-piece-requires c κs = search needs
 
-phase-of-requires : tie.Need-phase-of-requires
-phase-of-requires c κs = search needs
+is-decided-requires : tie.Need-is-decided-requires
+is-decided-requires c κs = search needs
+
+phase-after-requires : tie.Need-phase-after-requires
+phase-after-requires c κs = search needs
 
 same-length : tie.Need-same-length
 same-length c = search needs
@@ -37,25 +30,25 @@ same-length c = search needs
 same-length-2 : tie.Need-same-length-2
 same-length-2 c = search needs
 
-returns-3 : tie.Need-returns-3
-returns-3 c =
-    let a = c .before .before .before .before .before .before .before .before .before .before .before .before .before .before .before in
+returns : tie.Need-returns
+returns c =
+    let a = c .before .before .before .before .before .before .before .before .before .before .before .before .before .before in
     let n = c .before .before .before .before .before .before .before .before .before .before .count in
-    λ bs t.
-    let u = c .before .before .before .before .before .take-piece .ensures bs t in
-    held-more bs (a .args .buffer .now) _ _ _ t (a .args .got) _ _ _ _ _ (negative-as (a .args .got) (a .good .1 .0) _ (c .before .before .before .before .before .before .before .before .before .before .before .if1 .left))
-    (counted-as (a .args .got) (a .good .1 .0) (length (a .args .buffer .now)) _ (n .ensures .1)) (omega (arith, c .before .before .before .before .before .before .before .before .before .if2 .left)) (n .ensures .0 .0) u (c .phase-of .ensures _ _ _ u)
+    let u = c .before .before .before .before .before .before .take-piece in
+    let d = c .before .is-decided in
+    let k = counted-as (a .args .got) (a .good .1 .0) (length (a .args .buffer .now)) _ (n .ensures .1) in
+    let p = c .phase-after .ensures ∙ ap (λ (z : ℤ). phaseAfter z (n .result) (u .result .bytes) (d .result)) (answer-kept (a .args .got) (a .good .1 .0)) in
+    λ bs t. held-read bs (a .args .buffer .now) (a .args .got) (n .result) k _ _ _ (u .ensures bs t) (n .ensures .0 .0) (d .result) (d .ensures .0) p
 
 pub take-read-spec : {M : Type 1} → statement M
 take-read-spec =
     tie.close
     (tie.spec
-    returns
     count-requires
-    returns-2
     slice-aggregate-take-piece
     take-piece-requires
-    phase-of-requires
+    is-decided-requires
+    phase-after-requires
     same-length
     same-length-2
-    returns-3)
+    returns)

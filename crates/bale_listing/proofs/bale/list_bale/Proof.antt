@@ -1,71 +1,141 @@
 -- `bale::list_bale` meets its contract.
 use native.Mathlib.Omega.{arith}
 use Prim.Native.Nat.{_^_, _<_}
-use mathlib.Core.Path.{refl, sym, ap, _∙_}
+use lib.Ieee.{ofBits}
 use Rattle.listing.specs.Sizes.{refusal-short}
-use Rattle.bale_listing.specs.Cases.{listed}
-use Rattle.bale_listing.specs.Taken.{taken-bad}
-use Rattle.bale_listing.specs.Checks.{checkOf, own-is, own-refused, own-passed}
-use Rattle.bale_listing.specs.Good.{over-is}
+use Rattle.bale_listing.specs.Answered.{lent-sizes, refused-listed, bale-fits, some-parts, both-listed}
 use borrow.Author.Needs.{needs}
 use Rattle.bale_listing.proofs.bale.list_bale.Statement.{statement}
 use Rattle.bale_listing.proofs.bale.list_bale.Tie as tie
 
-check-file-requires : tie.Need-check-file-requires
-check-file-requires c κs = search needs
+slice-aggregate-answer-bale : tie.Need-slice-aggregate-answer-bale
+slice-aggregate-answer-bale c = search needs
 
-check-size-requires : tie.Need-check-size-requires
-check-size-requires c κs = search needs
+slice-aggregate-answer-bale-2 : tie.Need-slice-aggregate-answer-bale-2
+slice-aggregate-answer-bale-2 c = search needs
 
-first-refusal-requires : tie.Need-first-refusal-requires
-first-refusal-requires c κs = search needs
+slice-aggregate-answer-bale-3 : tie.Need-slice-aggregate-answer-bale-3
+slice-aggregate-answer-bale-3 c = search needs
 
-enum-known-first : tie.Need-enum-known-first
-enum-known-first c = search needs
+slice-aggregate-answer-bale-4 : tie.Need-slice-aggregate-answer-bale-4
+slice-aggregate-answer-bale-4 c = search needs
+
+answer-bale-requires : tie.Need-answer-bale-requires
+unfolding ofBits
+answer-bale-requires c κs =
+    let s = c .before .before .before .before .before .before .before .before .before .before .before in
+    (s .pre .0, lent-sizes _ _ (s .pre .1 .0) (s .pre .1 .1))
+
+enum-known-outcome : tie.Need-enum-known-outcome
+enum-known-outcome c = search needs
 
 put-refusal-requires : tie.Need-put-refusal-requires
 put-refusal-requires c κs =
-    let n : c .before .before .first .given .0 .0 < 2 ^ 32 = search needs in
-    let p : c .before .before .first .given .0 .1 .0 < 2 ^ 64 = search needs in
-    omega (arith, refusal-short _ _ n p, c .before .before .before .before .before .before .before .before .before .before .pre .1)
+    let s = c .before .before .before .before .before .before .before .before .before .before .before .before .before .before .before .before .before .before .before .before .before .before .before .before in
+    let n : c .before .before .outcome .given .0 .0 < 2 ^ 32 = search needs in
+    let p : c .before .before .outcome .given .0 .1 .0 < 2 ^ 64 = search needs in
+    omega (arith, refusal-short _ _ n p, s .pre .1 .2)
+
+enum-known-outcome-2 : tie.Need-enum-known-outcome-2
+enum-known-outcome-2 c = search needs
+
+grade-count-requires : tie.Need-grade-count-requires
+grade-count-requires c κs = search needs
+
+cast-put-bale : tie.Need-cast-put-bale
+cast-put-bale c = search needs
+
+cast-put-bale-2 : tie.Need-cast-put-bale-2
+cast-put-bale-2 c = search needs
+
+cast-put-bale-3 : tie.Need-cast-put-bale-3
+cast-put-bale-3 c = search needs
+
+put-bale-requires : tie.Need-put-bale-requires
+unfolding ofBits
+put-bale-requires c κs =
+    let s = c .before .before .before .before .before .before .before .before .before .before .before .before .before .before .before .before .before .before .before .before .before .before .before .before .before .before .before .before in
+    let x = s .pre .0 in
+    bale-fits (x .bytes) _ _ _ _ (c .before .before .before .before .before .before .before .before .before .before .before .before .before .before .before .before .answer-bale .ensures (x .bytes) (x .taken)) _ _ _ (x .taken) _ _ (c .before .before .before .before .before .before .outcome2 .given .1) _ (c .before .before .before .grade-count .ensures) (s .args .out .now) (s .pre .1 .2)
+
+slice-aggregate-put-parts : tie.Need-slice-aggregate-put-parts
+slice-aggregate-put-parts c = search needs
+
+slice-aggregate-put-parts-2 : tie.Need-slice-aggregate-put-parts-2
+slice-aggregate-put-parts-2 c = search needs
+
+slice-aggregate-put-parts-3 : tie.Need-slice-aggregate-put-parts-3
+slice-aggregate-put-parts-3 c = search needs
+
+slice-aggregate-put-parts-4 : tie.Need-slice-aggregate-put-parts-4
+slice-aggregate-put-parts-4 c = search needs
+
+cast-put-parts : tie.Need-cast-put-parts
+cast-put-parts c = search needs
+
+put-parts-requires : tie.Need-put-parts-requires
+unfolding ofBits
+put-parts-requires c κs =
+    let s = c .before .before .before .before .before .before .before .before .before .before .before .before .before .before .before .before .before .before .before .before .before .before .before .before .before .before .before .before .before .before .before .before .before .before .before .before in
+    let x = s .pre .0 in
+    some-parts (x .bytes) _ _ _ _ (c .before .before .before .before .before .before .before .before .before .before .before .before .before .before .before .before .before .before .before .before .before .before .before .before .answer-bale .ensures (x .bytes) (x .taken)) _ _ _ (x .taken) _ _ (c .before .before .before .before .before .before .before .before .before .before .before .before .before .before .outcome2 .given .1) _ (c .before .before .before .before .before .before .before .before .before .before .before .grade-count .ensures) (s .args .out .now) (s .pre .1 .2) _ _ (c .before .before .before .before .before .before .before .put-bale .ensures)
 
 same-length : tie.Need-same-length
 same-length c = search needs
 
-returns : tie.Need-returns
-returns c =
-    let own = own-is _ _ _ _ _ (c .before .before .before .before .before .before .before .before .before .check-file .ensures) (c .before .before .before .before .before .before .before .before .check-size .ensures) (c .before .before .before .before .before .before .before .first-refusal .ensures) (ap checkOf (c .before .before .before .before .before .first .given .1)) in
-    λ bs t. listed _ (own-refused bs _ (taken-bad bs _ _ _ t) (over-is bs _ _ _ t) _ _ own) (c .before .before .put-refusal .ensures)
-
-enum-told : tie.Need-enum-told
-enum-told c = search needs
-
-list-good-requires : tie.Need-list-good-requires
-list-good-requires c κs =
-    let x = c .before .before .before .before .before .before .before .before .before .pre .0 in
-    let own = own-passed _ (own-is _ _ _ _ _ (c .before .before .before .before .before .check-file .ensures) (c .before .before .before .before .check-size .ensures) (c .before .before .before .first-refusal .ensures) (ap checkOf (c .before .enum-told .given .1))) in
-    (record { bytes = x .bytes; small = record { taken = x .taken; whole = sym (taken-bad (x .bytes) _ _ _ (x .taken)) ∙ own .0; within = own .1 } }, c .before .before .before .before .before .before .before .before .before .pre .1)
-
 same-length-2 : tie.Need-same-length-2
 same-length-2 c = search needs
 
+same-length-3 : tie.Need-same-length-3
+same-length-3 c = search needs
+
+returns : tie.Need-returns
+unfolding ofBits
+returns c = λ bs t. refused-listed bs _ _ _ _ (c .before .before .before .before .before .before .before .before .before .before .before .before .before .before .before .answer-bale .ensures bs t) _ _ (c .before .before .before .before .before .outcome .given .1) _ _ _ (c .before .before .put-refusal .ensures)
+
+same-length-4 : tie.Need-same-length-4
+same-length-4 c = search needs
+
+same-length-5 : tie.Need-same-length-5
+same-length-5 c = search needs
+
+same-length-6 : tie.Need-same-length-6
+same-length-6 c = search needs
+
 returns-2 : tie.Need-returns-2
+unfolding ofBits
 returns-2 c =
-    let own = own-passed _ (own-is _ _ _ _ _ (c .before .before .before .before .before .before .before .before .check-file .ensures) (c .before .before .before .before .before .before .before .check-size .ensures) (c .before .before .before .before .before .before .first-refusal .ensures) (ap checkOf (c .before .before .before .before .enum-told .given .1))) in
-    λ bs t. listed _ refl (c .before .before .list-good .ensures bs (record { taken = t; whole = sym (taken-bad bs _ _ _ t) ∙ own .0; within = own .1 }))
+    let s = c .before .before .before .before .before .before .before .before .before .before .before .before .before .before .before .before .before .before .before .before .before .before .before .before .before .before .before .before .before .before .before .before .before .before .before .before .before .before .before in
+    λ bs t. both-listed bs _ _ _ _ (c .before .before .before .before .before .before .before .before .before .before .before .before .before .before .before .before .before .before .before .before .before .before .before .before .before .before .before .answer-bale .ensures bs t) _ _ _ t _ _ (c .before .before .before .before .before .before .before .before .before .before .before .before .before .before .before .before .before .outcome2 .given .1) _ (c .before .before .before .before .before .before .before .before .before .before .before .before .before .before .grade-count .ensures) (s .args .out .now) (s .pre .1 .2) _ _ (c .before .before .before .before .before .before .before .before .before .before .put-bale .ensures) _ _ (c .before .before .put-parts .ensures)
 
 pub list-bale-spec : {M : Type 1} → statement M
 list-bale-spec =
     tie.close
     (tie.spec
-    check-file-requires
-    check-size-requires
-    first-refusal-requires
-    enum-known-first
+    slice-aggregate-answer-bale
+    slice-aggregate-answer-bale-2
+    slice-aggregate-answer-bale-3
+    slice-aggregate-answer-bale-4
+    answer-bale-requires
+    enum-known-outcome
     put-refusal-requires
+    enum-known-outcome-2
+    grade-count-requires
+    cast-put-bale
+    cast-put-bale-2
+    cast-put-bale-3
+    put-bale-requires
+    slice-aggregate-put-parts
+    slice-aggregate-put-parts-2
+    slice-aggregate-put-parts-3
+    slice-aggregate-put-parts-4
+    cast-put-parts
+    put-parts-requires
     same-length
-    returns
-    enum-told
-    list-good-requires
     same-length-2
+    same-length-3
+    returns
+    same-length-4
+    same-length-5
+    same-length-6
     returns-2)

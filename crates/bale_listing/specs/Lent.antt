@@ -1,0 +1,46 @@
+-- What a bale's listing leaves in the lent slices: the text at the front of one, and the work as the call leaves it.
+use Prim.Native.Nat.{ℕ}
+use native.Mathlib.Omega.{arith}
+use mathlib.Core.Path.{_≡_, refl}
+use mathlib.Core.List.{List, [], _∷_}
+use lib.Ieee.{Float}
+use lib.ListN.{length, replicate}
+use Rattle.definition.specs.Floats.{zeroᶠ}
+use Rattle.definition.specs.Call.{Lent, overwrite}
+use Rattle.definition.specs.FileAnswer.{fileResult}
+use Rattle.definition.specs.Listing.{listing}
+use Rattle.zero_lookahead_belief_propagation.specs.Called.{lentWith}
+
+-- the work, beside buffers of its own for the answer
+abbrev pub lentOf : List Float → List ℕ → Lent
+lentOf wf wn = lentWith wf wn (replicate 24 0) (replicate 48 zeroᶠ) (replicate 96 0) (replicate 24 zeroᶠ)
+
+pub record ListedFrom (bs : List ℕ) (n : ℕ) (wf : List Float) (wn : List ℕ) (out : List ℕ) (wf′ : List Float) (wn′ : List ℕ) (out′ : List ℕ) : Type 0 where
+  pub text : out′ ≡ overwrite (listing bs) out
+  pub long : n ≡ length (listing bs)
+  pub workFloats : wf′ ≡ fileResult bs (lentOf wf wn) .lent .workFloats
+  pub workNumbers : wn′ ≡ fileResult bs (lentOf wf wn) .lent .workNumbers
+
+pub record Untouched (n : ℕ) (wf : List Float) (wn : List ℕ) (out : List ℕ) (wf′ : List Float) (wn′ : List ℕ) (out′ : List ℕ) : Type 0 where
+  pub text : out′ ≡ out
+  pub long : n ≡ 0
+  pub workFloats : wf′ ≡ wf
+  pub workNumbers : wn′ ≡ wn
+
+-- of what no end word has ended: nothing, or a bale
+abbrev pub RestListed : List ℕ → ℕ → List Float → List ℕ → List ℕ → List Float → List ℕ → List ℕ → Type 0
+RestListed [] = Untouched
+RestListed (x ∷ bs) = ListedFrom (x ∷ bs)
+
+pub untouched : {wf : List Float} {wn out : List ℕ} → Untouched 0 wf wn out wf wn out
+untouched = record { text = refl; long = refl; workFloats = refl; workNumbers = refl }
+
+pub none-listed : (bs : List ℕ) (wf : List Float) (wn out : List ℕ) → length bs ≡ 0 → RestListed bs 0 wf wn out wf wn out
+none-listed [] wf wn out e = untouched
+none-listed (x ∷ bs) wf wn out e = absurd (let z : ⊥ = omega arith in z)
+
+pub rest-listed :
+    (bs : List ℕ) {n : ℕ} {wf : List Float} {wn out : List ℕ} {wf′ : List Float} {wn′ out′ : List ℕ} →
+    (length bs ≡ 0 → ⊥) → ListedFrom bs n wf wn out wf′ wn′ out′ → RestListed bs n wf wn out wf′ wn′ out′
+rest-listed [] h l = absurd (h refl)
+rest-listed (x ∷ bs) h l = l
