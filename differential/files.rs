@@ -1,44 +1,69 @@
-//! Compares the bale program with the Rust, file by file: the program runs on each file, and every byte that it prints is compared. Run by
-//! differential/files.
+//! Compares the programs with the Rust, file by file: `bale` runs on each bale file, `shift` on each shift, and every byte that they print is compared.
+//! Run by differential/files.
 
 use oracle::generate_files::{damaged_file, file};
+use oracle::generate_shifts::{damaged_shift, shift};
 use oracle::random::Random;
 use std::io::Write;
 use std::process::{Command, Stdio};
 
-const PROGRAM: &str = "target/bin/bale";
+/// A program, what it is run on, and the Rust's listing.
+struct Compared {
+    program: &'static str,
+    good: fn(&mut Random) -> Vec<u8>,
+    damaged: fn(&mut Random) -> Vec<u8>,
+    listing: fn(&[u8]) -> String,
+}
 
-/// What the program prints for these bytes.
-fn printed(bytes: &[u8]) -> Vec<u8> {
-    let child = Command::new(PROGRAM).stdin(Stdio::piped()).stdout(Stdio::piped()).spawn();
+const FILES: Compared = Compared { program: "target/bin/bale", good: file, damaged: damaged_file, listing: oracle::bale::listing };
+const SHIFTS: Compared = Compared { program: "target/bin/shift", good: shift, damaged: damaged_shift, listing: oracle::shift::listing };
+
+/// What the program prints for these bytes, written to it in pieces of so many.
+fn printed(program: &str, bytes: &[u8], piece: usize) -> Vec<u8> {
+    let child = Command::new(program).stdin(Stdio::piped()).stdout(Stdio::piped()).spawn();
     let mut child = child.expect("the program starts");
-    // It may end before it has read everything: a bad word decides.
-    let _ = child.stdin.take().expect("a pipe").write_all(bytes);
+    let mut input = child.stdin.take().expect("a pipe");
+    // It may end before it has read everything: of a single bale a bad word decides.
+    let _ = bytes.chunks(piece).try_for_each(|piece| input.write_all(piece));
+    drop(input);
     child.wait_with_output().expect("the program ends").stdout
 }
 
-fn compared(seed: u64) -> Result<bool, Vec<u8>> {
+/// Whether a listing is a refusal or has one in it, or else the bytes where it differs.
+fn compared(what: &Compared, seed: u64) -> Result<bool, Vec<u8>> {
     let random = &mut Random::new(seed);
-    let bytes = if seed % 2 == 0 { file(random) } else { damaged_file(random) };
-    let expected = oracle::bale::listing(&bytes);
-    if printed(&bytes) == expected.as_bytes() { Ok(expected.starts_with("refused")) } else { Err(bytes) }
+    let bytes = if seed % 2 == 0 { (what.good)(random) } else { (what.damaged)(random) };
+    // mostly whole; now and then byte by byte, or across words
+    let piece = match seed % 16 {
+        5 | 10 => 1,
+        7 => 7,
+        _ => 1 << 16,
+    };
+    let expected = (what.listing)(&bytes);
+    if printed(what.program, &bytes, piece) == expected.as_bytes() { Ok(expected.contains("refused")) } else { Err(bytes) }
 }
 
-fn share(first: u64, step: u64, end: u64) -> Result<u64, Vec<u8>> {
+fn share(what: &Compared, first: u64, step: u64, end: u64) -> Result<u64, Vec<u8>> {
     let mut refused = 0;
     for seed in (first..end).step_by(step as usize) {
-        refused += u64::from(compared(seed)?);
+        refused += u64::from(compared(what, seed)?);
     }
     Ok(refused)
 }
 
 fn main() {
-    let words: Vec<u64> = std::env::args().skip(1).map(|word| word.parse().expect("a number")).collect();
-    let (seed, count) = (words.first().copied().unwrap_or(0), words.get(1).copied().unwrap_or(10_000));
+    let mut words: Vec<String> = std::env::args().skip(1).collect();
+    let shifts = words.first().is_some_and(|word| word == "shifts");
+    if shifts {
+        words.remove(0);
+    }
+    let what = if shifts { &SHIFTS } else { &FILES };
+    let numbers: Vec<u64> = words.iter().map(|word| word.parse().expect("a number")).collect();
+    let (seed, count) = (numbers.first().copied().unwrap_or(0), numbers.get(1).copied().unwrap_or(10_000));
     let threads = std::thread::available_parallelism().map_or(1, |n| n.get() as u64);
     let shares: Vec<Result<u64, Vec<u8>>> = std::thread::scope(|scope| {
         let workers: Vec<_> =
-            (0..threads).map(|i| scope.spawn(move || share(seed + i, threads, seed + count))).collect();
+            (0..threads).map(|i| scope.spawn(move || share(what, seed + i, threads, seed + count))).collect();
         workers.into_iter().map(|worker| worker.join().expect("a worker ends")).collect()
     });
     let mut refused = 0;
@@ -52,5 +77,6 @@ fn main() {
             }
         }
     }
-    println!("{count} files, seeds from {seed} on, half of them damaged: every listing agrees, {refused} are refusals");
+    let kind = if shifts { "shifts" } else { "files" };
+    println!("{count} {kind}, seeds from {seed} on, half of them damaged: every listing agrees, {refused} have refusals");
 }

@@ -1,5 +1,5 @@
 //! The reference Rust with document 01's stand-ins, behind document 01's call,
-//! and references for document 02's belts, read patterns and made-up bales.
+//! and references for document 02's shifts, belts, read patterns and made-up bales.
 
 pub mod alone;
 pub mod bale;
@@ -13,6 +13,7 @@ pub mod generate;
 pub mod generate_belts;
 pub mod generate_files;
 pub mod generate_patterns;
+pub mod generate_shifts;
 pub mod generate_trials;
 pub mod graph;
 pub mod hooks;
@@ -34,6 +35,7 @@ mod selfcheck_patterns;
 mod selfcheck_trial_refusals;
 mod selfcheck_trials;
 pub mod shapes;
+pub mod shift;
 pub mod standins;
 pub mod text;
 pub mod tree;

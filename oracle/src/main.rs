@@ -8,10 +8,10 @@ use std::process::ExitCode;
 use oracle::alone::parts_answer_alone;
 use oracle::call::{call, call_with_bounds};
 use oracle::random::Random;
-use oracle::{bale, generate, generate_files, log_table, selfcheck, text, tree};
+use oracle::{bale, generate, generate_files, generate_shifts, log_table, selfcheck, shift, text, tree};
 
-const USAGE: &str = "usage: oracle bale | call [--bounds] | tree | table | selfcheck
-     | generate files|damaged|calls|limits SEED COUNT DIR | bounds SEED COUNT | alone SEED COUNT";
+const USAGE: &str = "usage: oracle bale | shift | call [--bounds] | tree | table | selfcheck
+     | generate files|damaged|shifts|damaged-shifts|calls|limits SEED COUNT DIR | bounds SEED COUNT | alone SEED COUNT";
 
 fn main() -> ExitCode {
     let arguments: Vec<String> = std::env::args().skip(1).collect();
@@ -30,6 +30,7 @@ fn main() -> ExitCode {
 fn command(arguments: &[&str]) -> Result<bool, String> {
     match arguments {
         ["bale"] => print(&bale::listing(&input()?)),
+        ["shift"] => print(&shift::listing(&input()?)),
         ["call"] => print(&text::write_outcome(&call(&text::read_call(&input_text()?)?))),
         ["call", "--bounds"] => {
             let (outcome, bounds) = call_with_bounds(&text::read_call(&input_text()?)?);
@@ -78,6 +79,8 @@ fn write_files(kind: &str, seed: u64, count: u64, folder: &Path) -> Result<bool,
         let (ending, bytes) = match kind {
             "files" => ("bale", generate_files::file(&mut random)),
             "damaged" => ("bale", generate_files::damaged_file(&mut random)),
+            "shifts" => ("shift", generate_shifts::shift(&mut random)),
+            "damaged-shifts" => ("shift", generate_shifts::damaged_shift(&mut random)),
             "calls" => ("call", text::write_call(&generate::any_call(&mut random)).into_bytes()),
             "limits" => ("call", text::write_call(&generate::limits_call(&mut random)).into_bytes()),
             _ => return Err(format!("no kind {kind}")),
