@@ -1,19 +1,15 @@
 -- What the code holds of the input that came.
-use Prim.Native.Nat.{ℕ, _≤_, _<_, _^_}
+use Prim.Native.Nat.{ℕ, _≤_, _<_}
 use mathlib.Core.Path.{_≡_, sym, ap, subst, _∙_}
 use mathlib.Core.Bool.{Bool, true, false}
 use mathlib.Core.List.{List, _++_}
 use lib.IntN.{ℤ}
 use lib.ListN.{length, take}
-use lib.Signed.{mag}
-use mir.Syntax.{w64}
-use mir.Val.{toZ, ofZ}
 use Rattle.libc.specs.Io.{Moved}
 use Rattle.io.specs.Counts.{clamped}
 use Rattle.bale_file.specs.Decoder.{Fed}
 use Rattle.bale_file.specs.Spoilt.{fed-bad}
 use Rattle.bale_answer.specs.Taken.{TakenIn}
-use Rattle.streams.specs.Answers.{answer-kept}
 use Rattle.streams.specs.Reads.{readCall}
 use Rattle.streams.specs.Input.{Came, afterRead, phaseAfter, CameBy, isReading, bytes-after, phase-is, toRead, few-while-reading, came-more, less-to-read}
 use Rattle.streams.specs.Writes.{HandedOver}
@@ -59,12 +55,6 @@ module _
 
   pub held-read : n ≤ length buffer → (e : Bool) → e ≡ t .input .decoder .reading .bad → t .phase ≡ phaseAfter got n (t .input .bytes) e → HoldsInput came t ms ps
   held-read l e h p = record { phase = p ∙ phase-is decided got buffer bs n counted l (t .input .bytes) e (taken-all .counted) (h ∙ bad); taken = taken-all }
-
--- an answer that was stored and read again
-pub held-as :
-    (z : ℤ) → mag z < 2 ^ 63 → (bs buffer : List ℕ) (t : Taking) (ms ps : List ℕ) → HoldsInput (afterRead decided (readCall (toZ w64 (ofZ w64 z)) buffer) bs) t ms ps →
-    HoldsInput (afterRead decided (readCall z buffer) bs) t ms ps
-held-as z s bs buffer t ms ps h = subst (λ (y : ℤ). HoldsInput (afterRead decided (readCall y buffer) bs) t ms ps) (answer-kept z s) h
 
 pub listing-is : (x : Came) (t : Taking) (ms ps : List ℕ) → HoldsInput x t ms ps → (p : Phase) → t .phase ≡ p → listingOf x ≡ listingAt p (x .bytes)
 listing-is x t ms ps h p e = ap (λ (q : Phase). listingAt q (x .bytes)) (sym (h .phase) ∙ e)

@@ -1,5 +1,5 @@
 -- What a bale's listing leaves in the lent slices: the text at the front of one, and the work as the call leaves it.
-use Prim.Native.Nat.{ℕ}
+use Prim.Native.Nat.{ℕ, _≤_}
 use native.Mathlib.Omega.{arith}
 use mathlib.Core.Path.{_≡_, refl}
 use mathlib.Core.List.{List, [], _∷_}
@@ -9,6 +9,7 @@ use Rattle.definition.specs.Floats.{zeroᶠ}
 use Rattle.definition.specs.Call.{Lent, overwrite}
 use Rattle.definition.specs.FileAnswer.{fileResult}
 use Rattle.definition.specs.Listing.{listing}
+use Rattle.listing.specs.Front.{front-fits}
 use Rattle.zero_lookahead_belief_propagation.specs.Called.{lentWith}
 
 -- the work, beside buffers of its own for the answer
@@ -44,3 +45,8 @@ pub rest-listed :
     (length bs ≡ 0 → ⊥) → ListedFrom bs n wf wn out wf′ wn′ out′ → RestListed bs n wf wn out wf′ wn′ out′
 rest-listed [] h l = absurd (h refl)
 rest-listed (x ∷ bs) h l = l
+
+pub rest-fits :
+    (n : ℕ) (wf : List Float) (wn out : List ℕ) (wf′ : List Float) (wn′ out′ : List ℕ) (bs : List ℕ) → RestListed bs n wf wn out wf′ wn′ out′ → n ≤ length out′
+rest-fits n wf wn out wf′ wn′ out′ [] h = omega (arith, h .long)
+rest-fits n wf wn out wf′ wn′ out′ (x ∷ bs) h = front-fits (listing (x ∷ bs)) out out′ n (h .text, h .long)

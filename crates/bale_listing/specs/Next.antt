@@ -1,12 +1,15 @@
 -- What a piece of the input is behind the bytes of a bale that was not ended yet: it ends that bale, which is listed, or it does not.
 use Prim.Native.Nat.{ℕ, _≤_, _<_}
+use native.Mathlib.Omega.{arith}
 use mathlib.Core.Path.{_≡_, subst}
 use mathlib.Core.Bool.{Bool, true, false}
 use mathlib.Core.Logic.{_⊎_, inl, inr}
 use mathlib.Core.List.{List, [], _++_}
 use lib.Ieee.{Float}
 use lib.ListN.{length, take}
+use Rattle.definition.specs.Listing.{listing}
 use Rattle.claims.specs.ShiftCut.{EndedBale}
+use Rattle.listing.specs.Front.{front-fits}
 use Rattle.bale_answer.specs.declared.input.Input.{Input}
 use Rattle.bale_answer.specs.Taken.{Taken, SomeTaken, TakenIn}
 use Rattle.bale_answer.specs.Open.{OpenIn, TookTo, none-open}
@@ -27,6 +30,19 @@ pub record StillOpen (bs piece : List ℕ) (r : Listed) (ms ps : List ℕ) (wf :
 
 abbrev pub NextListed : List ℕ → List ℕ → Listed → List ℕ → List ℕ → List Float → List ℕ → List ℕ → List Float → List ℕ → List ℕ → Type 0
 NextListed bs piece r ms ps wf wn out wf′ wn′ out′ = BaleListed bs piece r ms ps wf wn out wf′ wn′ out′ ⊎ StillOpen bs piece r ms ps wf wn out wf′ wn′ out′
+
+module _ (p piece : List ℕ) (r : Listed) (ns qs : List ℕ) (wf : List Float) (wn out : List ℕ) (wf′ : List Float) (wn′ out′ : List ℕ) where
+  pub next-fits : NextListed p piece r ns qs wf wn out wf′ wn′ out′ → r .len ≤ length out′
+  next-fits (inl h) = front-fits (listing (p ++ take (r .used) piece)) out out′ (r .len) (h .listed .text, h .listed .long)
+  next-fits (inr h) = omega (arith, h .untouched .long)
+
+  pub next-some : NextListed p piece r ns qs wf wn out wf′ wn′ out′ → 0 < length piece → 0 < r .used
+  next-some (inl h) l = h .some
+  next-some (inr h) l = omega (arith, h .all)
+
+  pub next-within : NextListed p piece r ns qs wf wn out wf′ wn′ out′ → r .used ≤ length piece
+  next-within (inl h) = h .within
+  next-within (inr h) = omega (arith, h .all)
 
 -- ---- what was taken in of a piece
 

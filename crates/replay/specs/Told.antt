@@ -10,19 +10,18 @@ use lib.ListN.{length, take, drop, length-append, length-drop, take-append-drop,
 use lib.Seq.{length-take-le, drop-drop}
 use borrow.Rule.Slice.PartAt.{part-to-end}
 use Rattle.definition.specs.Lists.{concat}
-use Rattle.definition.specs.BaleFile.{words, wordsOfKind}
 use Rattle.definition.specs.Listing.{listing}
 use Rattle.definition.specs.Shift.{shiftListing}
 use Rattle.claims.specs.ShiftCut.{NoEnd, EndedBale}
 use Rattle.graph_laws.specs.Lists.{append-none}
 use Rattle.shift_laws.specs.Cut.{lastBale, bales-ended, bales-open}
-use Rattle.listing.specs.Front.{front-fits, front-is}
+use Rattle.listing.specs.Front.{front-is}
 use Rattle.bale_answer.specs.declared.input.Input.{Input}
 use Rattle.bale_listing.specs.declared.next.Listed.{Listed}
 use Rattle.bale_answer.specs.Taken.{TakenIn}
-use Rattle.bale_answer.specs.Open.{OpenIn}
+use Rattle.bale_answer.specs.Open.{OpenIn, none-open}
 use Rattle.bale_listing.specs.Lent.{RestListed}
-use Rattle.bale_listing.specs.Next.{NextListed}
+use Rattle.bale_listing.specs.Next.{NextListed, next-fits, next-some, next-within}
 use Rattle.replay.specs.Same.{sameBytes, startsWith, starts-fits, same-joined}
 
 -- `at` bytes of the file were taken in, of which `bytes` are not listed yet, and the text begins with the listing of the others, `told` bytes: so what is
@@ -36,9 +35,8 @@ pub record ToldTo (file text : List ℕ) (at told : ℕ) (i : Input) (ms ps : Li
   pub left : sameBytes (shiftListing (bytes ++ drop at file)) (drop told text) ≡ sameBytes (shiftListing file) text
 
 pub none-told : {file text : List ℕ} {i : Input} {ms ps : List ℕ} → TakenIn [] i ms ps → ToldTo file text 0 0 i ms ps
-unfolding words wordsOfKind
-none-told t =
-    record { bytes = []; held = record { taken = t; no-end = refl }; few = omega arith; within = omega arith; fits = omega arith; left = refl }
+none-told {i = i} {ms = ms} {ps = ps} t =
+    record { bytes = []; held = none-open i ms ps t; few = omega arith; within = omega arith; fits = omega arith; left = refl }
 
 -- ---- the next bale
 
@@ -57,9 +55,6 @@ record Added (bs piece : List ℕ) (r : Listed) (ms ps out : List ℕ) : Type 0 
   pub bytes : List ℕ
   pub held : OpenIn bytes (r .input) ms ps
   pub few : length bytes ≤ length bs + r .used
-  pub some : 0 < length piece → 0 < r .used
-  pub within : r .used ≤ length piece
-  pub fits : r .len ≤ length out
   pub listed : shiftListing (bs ++ piece) ≡ take (r .len) out ++ shiftListing (bytes ++ drop (r .used) piece)
 
 module _ (bs piece : List ℕ) (r : Listed) (ms ps : List ℕ) (wf : List Float) (wn out : List ℕ) (wf′ : List Float) (wn′ out′ : List ℕ) where
@@ -71,9 +66,6 @@ module _ (bs piece : List ℕ) (r : Listed) (ms ps : List ℕ) (wf : List Float)
         bytes = [];
         held = b .next;
         few = omega arith;
-        some = λ _. b .some;
-        within = b .within;
-        fits = front-fits (listing p) out out′ (r .len) (b .listed .text, b .listed .long);
         listed =
             ap (λ (l : List ℕ). shiftListing (bs ++ l)) (sym (take-append-drop (r .used) piece))
             ∙ ap shiftListing (sym (append-assoc bs (take (r .used) piece) (drop (r .used) piece)))
@@ -86,9 +78,6 @@ module _ (bs piece : List ℕ) (r : Listed) (ms ps : List ℕ) (wf : List Float)
         bytes = bs ++ piece;
         held = s .held;
         few = omega (arith, s .all, length-append bs piece);
-        some = λ h. omega (arith, s .all);
-        within = omega (arith, s .all);
-        fits = omega (arith, s .untouched .long);
         listed =
             ap shiftListing (sym (append-none (bs ++ piece)) ∙ ap (λ (l : List ℕ). (bs ++ piece) ++ l) (sym none))
             ∙ ap (λ (n : ℕ). take n out′ ++ shiftListing ((bs ++ piece) ++ drop (r .used) piece)) (sym (s .untouched .long));
@@ -102,14 +91,17 @@ module _
   next : Added (t .bytes) (drop at file) r ms′ ps′ out′
   next = subst (λ (p : List ℕ). Added (t .bytes) p r ms′ ps′ out′) e (added (t .bytes) piece r ms′ ps′ wf wn out wf′ wn′ out′ n)
 
-  pub next-fits : r .len ≤ length out′
-  next-fits = next .fits
+  fits : r .len ≤ length out′
+  fits = next-fits (t .bytes) piece r ms′ ps′ wf wn out wf′ wn′ out′ n
 
-  pub next-within : at + r .used ≤ length file
-  next-within = omega (arith, t .within, next .within, length-drop at file)
+  long : length piece ≡ length file - at
+  long = ap length e ∙ length-drop at file
 
-  pub next-some : at < length file → at < at + r .used
-  next-some h = let s = next .some (omega (arith, length-drop at file)) in omega arith
+  pub used-within : at + r .used ≤ length file
+  used-within = omega (arith, t .within, next-within (t .bytes) piece r ms′ ps′ wf wn out wf′ wn′ out′ n, long)
+
+  pub used-some : at < length file → at < at + r .used
+  used-some h = let s = next-some (t .bytes) piece r ms′ ps′ wf wn out wf′ wn′ out′ n (omega (arith, long)) in omega arith
 
   -- what is left is the front, and what is left behind it
   abbrev begun : Bool
@@ -122,7 +114,7 @@ module _
   parted =
       let rest : List ℕ = shiftListing (next .bytes ++ drop (r .used) (drop at file)) in
       let to : drop (length (take (r .len) out′)) (drop told text) ≡ drop (told + r .len) text =
-      ap (λ (k : ℕ). drop k (drop told text)) (length-take-le (r .len) out′ (next .fits)) ∙ drop-drop (r .len) told text in
+      ap (λ (k : ℕ). drop k (drop told text)) (length-take-le (r .len) out′ fits) ∙ drop-drop (r .len) told text in
       sym (t .left)
       ∙ ap (λ (l : List ℕ). sameBytes l (drop told text)) (next .listed)
       ∙ same-joined (take (r .len) out′) rest (drop told text)
@@ -137,9 +129,9 @@ module _
         bytes = next .bytes;
         held = next .held;
         few = omega (arith, next .few, t .few);
-        within = next-within;
+        within = used-within;
         fits =
-            omega (arith, t .fits, starts-fits (take (r .len) out′) (drop told text) h, length-take-le (r .len) out′ (next .fits), length-drop told text);
+            omega (arith, t .fits, starts-fits (take (r .len) out′) (drop told text) h, length-take-le (r .len) out′ fits, length-drop told text);
         left = sym (parted ∙ ap (λ (b : Bool). b && behind) h);
       }
 
@@ -150,10 +142,6 @@ unfolding shiftListing
 last-listed p h = ap (λ (ps : List (List ℕ)). concat (map listing ps)) (bales-open p h)
 
 module _ (n : ℕ) (wf : List Float) (wn out : List ℕ) (wf′ : List Float) (wn′ out′ : List ℕ) where
-  pub rest-fits : (bs : List ℕ) → RestListed bs n wf wn out wf′ wn′ out′ → n ≤ length out′
-  rest-fits [] l = omega (arith, l .long)
-  rest-fits (x ∷ bs) l = front-fits (listing (x ∷ bs)) out out′ n (l .text, l .long)
-
   rest-is : (bs : List ℕ) → RestListed bs n wf wn out wf′ wn′ out′ → take n out′ ≡ concat (map listing (lastBale bs))
   rest-is [] l = ap (λ (k : ℕ). take k out′) (l .long)
   rest-is (x ∷ bs) l = front-is (listing (x ∷ bs)) out out′ n (l .text, l .long) ∙ sym (append-none (listing (x ∷ bs)))

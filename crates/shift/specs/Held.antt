@@ -1,20 +1,16 @@
 -- What is held after a read more, and what is to be handed over at the end of the input.
-use Prim.Native.Nat.{ℕ, _+_, _≤_, _<_, _^_}
+use Prim.Native.Nat.{ℕ, _+_, _≤_, _<_}
 use mathlib.Core.Path.{_≡_, refl, sym, ap, subst, _∙_}
 use mathlib.Core.Bool.{true, false}
 use mathlib.Core.List.{List, _++_, map}
 use lib.IntN.{ℤ}
 use lib.ListN.{length, take, length-append}
-use lib.Signed.{mag}
 use lib.Seq.{length-take-le}
-use mir.Syntax.{w64}
-use mir.Val.{toZ, ofZ}
 use Rattle.libc.specs.Io.{Moved}
 use Rattle.io.specs.Counts.{clamped}
 use Rattle.definition.specs.Listing.{listing}
 use Rattle.graph_laws.specs.Bools.{and-left, and-right}
 use Rattle.shift_laws.specs.Ended.{endedBales, openBale}
-use Rattle.streams.specs.Answers.{answer-kept}
 use Rattle.streams.specs.Reads.{readCall}
 use Rattle.streams.specs.Input.{Came, isReading, phaseAfter, afterRead, bytes-after, phase-is, toRead, few-while-reading, came-more, less-to-read}
 use Rattle.streams.specs.Writes.{HandedInOrder}
@@ -47,12 +43,6 @@ module _ (x : Came) (got : ℤ) (buffer : List ℕ) (n : ℕ) (counted : n ≡ c
         counted = c;
         over = subst (λ (l : List ℕ). WentOver l (wentOf u) ns qs) (bytes-after never got buffer (x .bytes) n counted) all;
       }
-
--- an answer that was stored and read again
-pub held-as :
-    (z : ℤ) → mag z < 2 ^ 63 → (bs buffer : List ℕ) (t : Shift) (ms ps : List ℕ) → HoldsShift (afterRead never (readCall (toZ w64 (ofZ w64 z)) buffer) bs) t ms ps →
-    HoldsShift (afterRead never (readCall z buffer) bs) t ms ps
-held-as z s bs buffer t ms ps h = subst (λ (y : ℤ). HoldsShift (afterRead never (readCall y buffer) bs) t ms ps) (answer-kept z s) h
 
 -- ---- the loop
 

@@ -15,7 +15,7 @@ use Rattle.definition.specs.Shift.{bales}
 use Rattle.claims.specs.ShiftCut.{NoEnd, EndedBale}
 use Rattle.shift_laws.specs.Cut.{lastBale}
 use Rattle.shift_laws.specs.Ended.{endedBales, openBale, bales-split, open-short, none-ended, all-open, ended-first, open-first, ended-more, open-more}
-use Rattle.listing.specs.Front.{front-fits, front-is}
+use Rattle.listing.specs.Front.{front-is}
 use Rattle.streams.specs.Writes.{rest, HandedOver, HandedInOrder, handed-one, handed-then, handed-not, handed-empty}
 use Rattle.streams.specs.declared.input.Phase.{Phase}
 use Rattle.streams.specs.declared.input.Phase.the-variants.{Reading, Whole, TooLong, Unreadable}
@@ -47,7 +47,7 @@ texts bs = map listing (endedBales bs)
 
 -- ---- the cut of an ended bale, and of all
 
-pub no-byte : NoEnd []
+no-byte : NoEnd []
 unfolding words wordsOfKind
 no-byte = refl
 
@@ -90,18 +90,6 @@ module _ (bs xs : List ℕ) where
 -- ---- a piece behind bytes with no end word, and what of it was listed next
 
 module _ (p piece : List ℕ) (r : Listed) (ns qs : List ℕ) (wf : List Float) (wn out : List ℕ) (wf′ : List Float) (wn′ out′ : List ℕ) where
-  pub next-fits : NextListed p piece r ns qs wf wn out wf′ wn′ out′ → r .len ≤ length out′
-  next-fits (inl h) = front-fits (listing (p ++ take (r .used) piece)) out out′ (r .len) (h .listed .text, h .listed .long)
-  next-fits (inr h) = omega (arith, h .untouched .long)
-
-  pub next-some : NextListed p piece r ns qs wf wn out wf′ wn′ out′ → 0 < length piece → 0 < r .used
-  next-some (inl h) l = h .some
-  next-some (inr h) l = omega (arith, h .all)
-
-  pub next-within : NextListed p piece r ns qs wf wn out wf′ wn′ out′ → r .used ≤ length piece
-  next-within (inl h) = h .within
-  next-within (inr h) = omega (arith, h .all)
-
   module _ (b : Bool) (o : HandedOver (take (r .len) out′) b) where
     pub went-next : NextListed p piece r ns qs wf wn out wf′ wn′ out′ → WentOver (p ++ take (r .used) piece) (went (r .input) b) ns qs
     went-next (inl h) =
@@ -159,10 +147,6 @@ module _ (bs piece : List ℕ) (k : ℕ) where
 -- ---- at the end of the input
 
 module _ (n : ℕ) (wf : List Float) (wn out : List ℕ) (wf′ : List Float) (wn′ out′ : List ℕ) where
-  pub rest-fits : (o : List ℕ) → RestListed o n wf wn out wf′ wn′ out′ → n ≤ length out′
-  rest-fits [] h = omega (arith, h .long)
-  rest-fits (x ∷ l) h = front-fits (listing (x ∷ l)) out out′ n (h .text, h .long)
-
   module _ (b : Bool) (g : HandedOver (take n out′) b) where
     rest-handed : (o : List ℕ) → RestListed o n wf wn out wf′ wn′ out′ → HandedInOrder (map listing (lastBale o)) b
     rest-handed [] h = rw (handed-empty b (subst (λ (m : ℕ). HandedOver (take m out′) b) (h .long) g)) tt

@@ -4,12 +4,14 @@ use native.Mathlib.Omega.{arith}
 use mathlib.Core.Bool.{true}
 use mathlib.Core.List.{[]}
 use mathlib.Core.Path.{subst, _≡_, sym, _∙_}
+use lib.IntN.{ℤ}
 use lib.ListN.{length}
 use Rattle.libc.specs.Io.{Moved}
+use Rattle.streams.specs.Answers.{stored-as}
 use Rattle.streams.specs.Reads.{readCall}
 use Rattle.streams.specs.Input.{afterRead, cameBy, isReading, came-nothing}
 use Rattle.bale.specs.Program.{decided}
-use Rattle.bale.specs.Taking.{HoldsInput, held-as, Going, toReadOf, going-few, going-more, going-less}
+use Rattle.bale.specs.Taking.{HoldsInput, Going, toReadOf, going-few, going-more, going-less}
 use Rattle.bale.proofs.read_input.Statement.{statement}
 use Rattle.bale.proofs.read_input.Tie as tie
 
@@ -60,10 +62,14 @@ module _ (c : tie.After-take-read Inv-loop μ-loop) where
   more : isReading (x .loop .taking .phase) ≡ true
   more = sym (c .before .before .before .before .before .before .before .before .before .is-going .ensures) ∙ c .before .before .before .before .before .before .before .before .if1 .taken
 
-  held :
-      HoldsInput (afterRead decided (readCall (r .read .result) (r .read .last .1 .0)) (x .loop .inv .0 .came .bytes)) (c .take-read .result)
+  -- of an answer: what it gave is held
+  abbrev HeldBy : ℤ → Type 0
+  HeldBy got =
+      HoldsInput (afterRead decided (readCall got (r .read .last .1 .0)) (x .loop .inv .0 .came .bytes)) (c .take-read .result)
       (c .take-read .last .1 .1 .1 .0) (c .take-read .last .1 .1 .1 .1 .0)
-  held = held-as (r .read .result) (r .read .ok) (x .loop .inv .0 .came .bytes) (r .read .last .1 .0) _ _ _ (c .take-read .ensures _ (x .loop .inv .0 .holds .taken))
+
+  held : HeldBy (r .read .result)
+  held = stored-as (r .read .result) (r .read .ok) HeldBy (c .take-read .ensures _ (x .loop .inv .0 .holds .taken))
 
 loop-less : tie.Need-loop-less Inv-loop μ-loop
 loop-less c =

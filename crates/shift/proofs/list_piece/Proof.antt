@@ -11,9 +11,9 @@ use borrow.Rule.Slice.PartAt.{part-to-end}
 use Rattle.shift_laws.specs.Ended.{openBale}
 use Rattle.streams.specs.Writes.{rest, HandedOver}
 use Rattle.bale_answer.specs.Open.{OpenIn}
-use Rattle.bale_listing.specs.Next.{NextListed}
+use Rattle.bale_listing.specs.Next.{NextListed, next-fits, next-some, next-within}
 use Rattle.shift.specs.Shifts.{WentOver}
-use Rattle.shift.specs.Overs.{went, went-open, went-step, went-all, went-stopped, countable, next-fits, next-some, next-within}
+use Rattle.shift.specs.Overs.{went, went-open, went-step, went-all, went-stopped, countable}
 use Rattle.shift.proofs.list_piece.Statement.{statement}
 use Rattle.shift.proofs.list_piece.Tie as tie
 

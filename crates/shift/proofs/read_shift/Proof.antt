@@ -4,13 +4,15 @@ use native.Mathlib.Omega.{arith}
 use mathlib.Core.Bool.{true}
 use mathlib.Core.List.{[]}
 use mathlib.Core.Path.{subst, _≡_, sym, _∙_}
+use lib.IntN.{ℤ}
 use lib.ListN.{length}
 use Rattle.libc.specs.Io.{Moved}
+use Rattle.streams.specs.Answers.{stored-as}
 use Rattle.streams.specs.Reads.{readCall}
 use Rattle.streams.specs.Input.{afterRead, cameBy, came-nothing}
 use Rattle.shift.specs.Program.{never}
 use Rattle.shift.specs.Shifts.{HoldsShift, isGoing, Going}
-use Rattle.shift.specs.Held.{held-as, toReadOf, going-some, going-more, going-less}
+use Rattle.shift.specs.Held.{toReadOf, going-some, going-more, going-less}
 use Rattle.shift.proofs.read_shift.Statement.{statement}
 use Rattle.shift.proofs.read_shift.Tie as tie
 
@@ -63,10 +65,14 @@ module _ (c : tie.After-take-read Inv-loop μ-loop) where
   more : isGoing (x .loop .shift) ≡ true
   more = sym (c .before .before .before .before .before .before .before .before .before .before .is-going .ensures) ∙ c .before .before .before .before .before .before .before .before .before .if1 .taken
 
-  held :
-      HoldsShift (afterRead never (readCall (r .read .result) (r .read .last .1 .0)) (x .loop .inv .0 .came .bytes)) (c .take-read .result)
+  -- of an answer: what it gave is held
+  abbrev HeldBy : ℤ → Type 0
+  HeldBy got =
+      HoldsShift (afterRead never (readCall got (r .read .last .1 .0)) (x .loop .inv .0 .came .bytes)) (c .take-read .result)
       (c .take-read .last .1 .1 .1 .0) (c .take-read .last .1 .1 .1 .1 .0)
-  held = held-as (r .read .result) (r .read .ok) (x .loop .inv .0 .came .bytes) (r .read .last .1 .0) _ _ _ (c .take-read .ensures _ (x .loop .inv .0 .holds))
+
+  held : HeldBy (r .read .result)
+  held = stored-as (r .read .result) (r .read .ok) HeldBy (c .take-read .ensures _ (x .loop .inv .0 .holds))
 
 loop-less : tie.Need-loop-less Inv-loop μ-loop
 loop-less c =

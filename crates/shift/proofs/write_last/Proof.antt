@@ -14,7 +14,8 @@ use Rattle.streams.specs.Input.{Came}
 use Rattle.streams.specs.Writes.{HandedInOrder}
 use Rattle.bale_answer.specs.Taken.{TakenIn}
 use Rattle.shift.specs.Shifts.{HoldsShift}
-use Rattle.shift.specs.Overs.{rest-fits, whole-handed, texts-not}
+use Rattle.bale_listing.specs.Lent.{rest-fits}
+use Rattle.shift.specs.Overs.{whole-handed, texts-not}
 use Rattle.shift.specs.Held.{texts-are}
 use Rattle.shift.proofs.write_last.Statement.{statement}
 use Rattle.shift.proofs.write_last.Tie as tie

@@ -8,10 +8,10 @@ use lib.Seq.{length-take-le}
 use borrow.Rule.Slice.PartAt.{part-to-end}
 use borrow.Author.Needs.{needs}
 use borrow.Author.Tests.{not-true, not-false}
-use Rattle.bale_listing.specs.Lent.{RestListed}
-use Rattle.bale_listing.specs.Next.{NextListed}
+use Rattle.bale_listing.specs.Lent.{RestListed, rest-fits}
+use Rattle.bale_listing.specs.Next.{NextListed, next-fits}
 use Rattle.replay.specs.Same.{sameBytes, startsWith}
-use Rattle.replay.specs.Told.{ToldTo, none-told, part-room, next-fits, next-within, next-some, told-not, told-more, rest-fits, all-told}
+use Rattle.replay.specs.Told.{ToldTo, none-told, part-room, used-within, used-some, told-not, told-more, all-told}
 use Rattle.replay.proofs.listed.is_shift_listing.Statement.{statement}
 use Rattle.replay.proofs.listed.is_shift_listing.Tie as tie
 
@@ -96,7 +96,7 @@ module _ (c : tie.After-list-next Inv-loop μ-loop) where
   next = let t = turn .loop .inv .0 in c .list-next .ensures (t .bytes) (t .held)
 
   fits : c .list-next .result .len ≤ length written
-  fits = next-fits (turn .loop .inv .0) piece-is next
+  fits = next-fits _ _ _ _ _ _ _ _ _ _ _ next
 
 array-share-prefix-out : tie.Need-array-share-prefix-out Inv-loop μ-loop
 array-share-prefix-out c = fits (c .before .before .before .before .before .before)
@@ -122,7 +122,7 @@ returns c =
 add-at : tie.Need-add-at Inv-loop μ-loop
 add-at c =
     let d = c .before .before .before .before .before .before .before .before .before .before in
-    record { fits = omega (arith, next-within (turn d .loop .inv .0) (piece-is d) (next d), start (turn d) .pre) }
+    record { fits = omega (arith, used-within (turn d .loop .inv .0) (piece-is d) (next d), start (turn d) .pre) }
 
 add-told : tie.Need-add-told Inv-loop μ-loop
 add-told c =
@@ -134,8 +134,8 @@ loop-less : tie.Need-loop-less Inv-loop μ-loop
 loop-less c =
     let d = c .before .before .before .before .before .before .before .before .before .before .before in
     let t = turn d .loop .inv .0 in
-    let more = next-some t (piece-is d) (next d) (d .before .before .before .before .before .before .before .loop-test .taken) in
-    omega (arith, more, next-within t (piece-is d) (next d))
+    let more = used-some t (piece-is d) (next d) (d .before .before .before .before .before .before .before .loop-test .taken) in
+    omega (arith, more, used-within t (piece-is d) (next d))
 
 loop-again : tie.Need-loop-again Inv-loop μ-loop
 loop-again c =
