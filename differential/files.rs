@@ -1,22 +1,39 @@
 //! Compares the programs with the Rust, file by file: `bale` runs on each bale file, `shift` on each shift, and every byte that they print is compared.
 //! Run by differential/files.
 
+use oracle::generate_based_files::{based_file, damaged_based_file};
 use oracle::generate_files::{damaged_file, file};
-use oracle::generate_shifts::{damaged_shift, shift};
+use oracle::generate_shifts::{based_shift, damaged_based_shift, damaged_shift, shift};
 use oracle::random::Random;
 use std::io::Write;
 use std::process::{Command, Stdio};
 
+type Draw = fn(&mut Random) -> Vec<u8>;
+
 /// A program, what it is run on, and the Rust's listing.
 struct Compared {
+    name: &'static str,
     program: &'static str,
-    good: fn(&mut Random) -> Vec<u8>,
-    damaged: fn(&mut Random) -> Vec<u8>,
+    good: Draw,
+    damaged: Draw,
     listing: fn(&[u8]) -> String,
 }
 
-const FILES: Compared = Compared { program: "target/bin/bale", good: file, damaged: damaged_file, listing: oracle::bale::listing };
-const SHIFTS: Compared = Compared { program: "target/bin/shift", good: shift, damaged: damaged_shift, listing: oracle::shift::listing };
+const fn bales(name: &'static str, good: Draw, damaged: Draw) -> Compared {
+    Compared { name, program: "target/bin/bale", good, damaged, listing: oracle::bale::listing }
+}
+
+const fn shifts(name: &'static str, good: Draw, damaged: Draw) -> Compared {
+    Compared { name, program: "target/bin/shift", good, damaged, listing: oracle::shift::listing }
+}
+
+/// By their names on the command line; the first is meant where there is none.
+static STREAMS: [Compared; 4] = [
+    bales("files", file, damaged_file),
+    bales("based", based_file, damaged_based_file),
+    shifts("shifts", shift, damaged_shift),
+    shifts("based-shifts", based_shift, damaged_based_shift),
+];
 
 /// What the program prints for these bytes, written to it in pieces of so many.
 fn printed(program: &str, bytes: &[u8], piece: usize) -> Vec<u8> {
@@ -53,11 +70,11 @@ fn share(what: &Compared, first: u64, step: u64, end: u64) -> Result<u64, Vec<u8
 
 fn main() {
     let mut words: Vec<String> = std::env::args().skip(1).collect();
-    let shifts = words.first().is_some_and(|word| word == "shifts");
-    if shifts {
+    let named = words.first().and_then(|word| STREAMS.iter().find(|stream| stream.name == word));
+    if named.is_some() {
         words.remove(0);
     }
-    let what = if shifts { &SHIFTS } else { &FILES };
+    let what = named.unwrap_or(&STREAMS[0]);
     let numbers: Vec<u64> = words.iter().map(|word| word.parse().expect("a number")).collect();
     let (seed, count) = (numbers.first().copied().unwrap_or(0), numbers.get(1).copied().unwrap_or(10_000));
     let threads = std::thread::available_parallelism().map_or(1, |n| n.get() as u64);
@@ -77,6 +94,5 @@ fn main() {
             }
         }
     }
-    let kind = if shifts { "shifts" } else { "files" };
-    println!("{count} {kind}, seeds from {seed} on, half of them damaged: every listing agrees, {refused} have refusals");
+    println!("{}: {count} from seed {seed} on, half of them damaged: every listing agrees, {refused} have refusals", what.name);
 }

@@ -74,7 +74,8 @@ struct pikaplatinum_sizes pikaplatinum_sizes(uint32_t grades, uint32_t markers, 
  *   tolerance       the loop ends when the last residual is at most this
  *   loop_limit      at most so many turns, the five sweeps counted
  *   grades          how many grades there are
- *   evidence        two floats for each marker: how likely the read is where the mark is absent, and where it is present
+ *   evidence        two floats for each marker: how likely the read is where the mark is absent, and where it is present; of a reader whose
+ *                   belief e in the mark already includes a base rate b of its own, (1 - e) * b and e * (1 - b)
  *   pairs           two numbers for each pair: the grade, then the marker
  *   work_*          scratch; what is needed of it is zero afterwards, the rest is left as it was
  *   belief_numbers  the grades that have a belief, part by part in the order of the nodes

@@ -4,10 +4,10 @@
 
 #include "pikaplatinum.h"
 
-enum { SETTINGS = 1, PRIOR = 2, GRADES = 3, MARKER = 4, PAIR = 5, END = 6 };
+enum { SETTINGS = 1, PRIOR = 2, GRADES = 3, MARKER = 4, PAIR = 5, END = 6, BASE = 7 };
 
 /* What a word of each kind may have set below its kind's three bits. */
-static const uint32_t fields[] = {0, 0xFFFFF, 0x7FF, 0x7FF, 0x7FFF, 0xFFFFF, 0, 0};
+static const uint32_t fields[] = {0, 0xFFFFF, 0x7FF, 0x7FF, 0x7FFF, 0xFFFFF, 0, 0x3FF};
 
 struct bale {
     float alpha, beta, prior;
@@ -49,7 +49,7 @@ static void take(struct bale *bale, uint32_t word) {
     case GRADES:
         bale->grades = word & 0x7FF;
         break;
-    case MARKER: /* how surely it was read does not count */
+    case MARKER: /* how surely it was read does not count, and so no base rate does */
         bale->markers++;
         break;
     case PAIR:
@@ -61,16 +61,19 @@ static void take(struct bale *bale, uint32_t word) {
     }
 }
 
-/* One each of the first three kinds, then markers, pairs and one end. */
+/* One each of the first three kinds, the prior with a base rate behind it or none, then markers, pairs and one end. */
 static bool may_follow(uint32_t before, uint32_t kind) {
+    if (kind == BASE || before == BASE) {
+        return kind == BASE ? before == PRIOR : kind == GRADES;
+    }
     return before < GRADES ? kind == before + 1 : before < END && kind >= MARKER && kind >= before && kind <= END;
 }
 
-/* Number 9 is a bad file: its place is the first bad word, or how many whole words there are. */
+/* Number 9 is a bad file: its place is the first bad word, or how many whole words there are. Number 11, behind it, is a base rate of 0, at its word. */
 static struct bale read_bale(void) {
     struct bale bale = {0};
     unsigned char bytes[4];
-    uint32_t place = 0, before = 0;
+    uint32_t place = 0, before = 0, zero_base = 0; /* no base rate has place 0 */
     size_t got;
     while ((got = fread(bytes, 1, sizeof bytes, stdin)) == sizeof bytes) {
         uint32_t word = bytes[0] | (uint32_t)bytes[1] << 8 | (uint32_t)bytes[2] << 16 | (uint32_t)bytes[3] << 24;
@@ -78,12 +81,18 @@ static struct bale read_bale(void) {
         if (!may_follow(before, kind) || (word & 0x1FFFFFFF & ~fields[kind]) != 0) {
             refuse(9, place);
         }
+        if (kind == BASE && (word & 0x3FF) == 0) {
+            zero_base = place;
+        }
         take(&bale, word);
         before = kind;
         place++;
     }
     if (before != END || got > 0) {
         refuse(9, place);
+    }
+    if (zero_base > 0) {
+        refuse(11, zero_base);
     }
     return bale;
 }

@@ -1,4 +1,4 @@
-//! The bale file and the program's listing.
+//! The bale file, with document 02's base rate (S-16), and the program's listing.
 
 use std::fmt::Write;
 
@@ -6,20 +6,23 @@ use crate::call::{call, Belief, Call, Lent, Outcome, PartEnding, Refusal, Settin
 use crate::hooks::Ending;
 use crate::limits::*;
 
-/// The fields' bits of the kinds 1 to 6; a set bit outside them is bad.
-const FIELDS: [u32; 6] = [0xF_FFFF, 0x7FF, 0x7FF, 0x7FFF, 0xF_FFFF, 0];
+/// The fields' bits of the kinds 1 to 7; a set bit outside them is bad.
+const FIELDS: [u32; 7] = [0xF_FFFF, 0x7FF, 0x7FF, 0x7FFF, 0xF_FFFF, 0, 0x3FF];
 
 const END: u32 = 6;
+const BASE: u32 = 7;
 
 fn kind(word: u32) -> u32 {
     word >> 29
 }
 
-/// One each of 1, 2, 3, then all 4s, all 5s and one 6. `before` is the kind of
-/// the word before, 0 at the start.
+/// One each of 1, 2, 3, then all 4s, all 5s and one 6; between 2 and 3 there may be
+/// one 7. `before` is the kind of the word before, 0 at the start.
 fn may_follow(before: u32, next: u32) -> bool {
     match before {
-        0 | 1 | 2 => next == before + 1,
+        0 | 1 => next == before + 1,
+        2 => next == 3 || next == BASE,
+        BASE => next == 3,
         3 | 4 => (4..=END).contains(&next),
         5 => next == 5 || next == END,
         _ => false,
@@ -55,6 +58,16 @@ fn in_1024ths(word: u32) -> f32 {
     (word & 0x3FF) as f32 / 1024.0
 }
 
+/// Absent and present of a read e; a base rate b, in 1,024ths, is taken out of it.
+/// For e up to 16,384 nothing is rounded: whole numbers up to 2^24 are exact in f32.
+pub(crate) fn entries(e: u32, base: Option<u32>) -> [f32; 2] {
+    let (absent, present) = (16384.0 - e as f32, e as f32);
+    match base {
+        None => [absent / 16384.0, present / 16384.0],
+        Some(b) => [absent * b as f32 / 16777216.0, present * (1024 - b) as f32 / 16777216.0],
+    }
+}
+
 /// The call that a good file means, run as the program runs it.
 fn meaning(words: &[u32]) -> Call {
     let settings = Settings {
@@ -65,15 +78,13 @@ fn meaning(words: &[u32]) -> Call {
         tolerance: PROGRAM_TOLERANCE,
         loop_limit: PROGRAM_LOOPS,
     };
-    let grades = words[2] & 0x7FF;
-    let mut evidence = Vec::new();
-    let mut pairs = Vec::new();
-    for &word in &words[3..] {
+    let (mut base, mut grades) = (None, 0);
+    let (mut evidence, mut pairs) = (Vec::new(), Vec::new());
+    for &word in &words[2..] {
         match kind(word) {
-            4 => {
-                let e = (word & 0x7FFF) as f32;
-                evidence.extend([(16384.0 - e) / 16384.0, e / 16384.0]);
-            }
+            BASE => base = Some(word & 0x3FF),
+            3 => grades = word & 0x7FF,
+            4 => evidence.extend(entries(word & 0x7FFF, base)),
             5 => pairs.extend([word >> 10 & 0x3FF, word & 0x3FF]),
             _ => {}
         }
@@ -82,9 +93,14 @@ fn meaning(words: &[u32]) -> Call {
     Call { settings, grades, evidence, pairs, lent }
 }
 
-/// The file's meaning; number 9, then the program's own number 1.
+/// The file's meaning; number 9, then 11, a base rate of 0, then the program's own
+/// number 1.
 pub fn decode(bytes: &[u8]) -> Result<Call, Refusal> {
-    let bale = meaning(&words(bytes)?);
+    let words = words(bytes)?;
+    if let Some(place) = words.iter().position(|&word| word == BASE << 29) {
+        return Err(Refusal { number: 11, place: place as u32 });
+    }
+    let bale = meaning(&words);
     let over = bale.grades as usize > PROGRAM_GRADES
         || bale.marker_count() > PROGRAM_MARKERS
         || bale.pair_count() > PROGRAM_PAIRS;

@@ -23,7 +23,7 @@ fn file_settings(random: &mut Random) -> [u32; 2] {
     [1 << 29 | alpha << 10 | beta, 2 << 29 | regularised << 10 | prior]
 }
 
-fn file_words(random: &mut Random) -> Vec<u32> {
+pub(crate) fn file_words(random: &mut Random) -> Vec<u32> {
     let graph = any_graph(random, PROGRAM);
     let mut words = file_settings(random).to_vec();
     words.push(3 << 29 | graph.grades as u32);
@@ -40,24 +40,33 @@ fn file_words(random: &mut Random) -> Vec<u32> {
 /// program's own number 1 may refuse it.
 fn change_field(random: &mut Random, words: &mut Vec<u32>) {
     let place = random.below(words.len() - 1);
+    change_field_at(random, words, place);
+}
+
+pub(crate) fn change_field_at(random: &mut Random, words: &mut Vec<u32>, place: usize) {
     let value = random.next() as u32;
     match words[place] >> 29 {
         1 => words[place] &= random.pick(&[!0x3FF, !(0x3FF << 10)]),
         2 => words[place] &= !0x3FF,
         3 => words[place] = 3 << 29 | random.pick(&[value & 0x7FF, 0, 24, 25, 1024, 1025]),
         4 => words[place] = 4 << 29 | random.pick(&[value & 0x7FFF, 0, 16384, 16385, 32767]),
+        7 => words[place] = 7 << 29 | random.pick(&[value & 0x3FF, 0]),
         _ if random.once_in(2) => words.insert(place, words[place]),
         _ => words[place] = 5 << 29 | value & 0xF_FFFF,
     }
 }
 
-fn bytes_of(words: &[u32]) -> Vec<u8> {
+pub(crate) fn bytes_of(words: &[u32]) -> Vec<u8> {
     words.iter().flat_map(|word| word.to_le_bytes()).collect()
 }
 
 /// A bale file in good form; now and then a check refuses what it says.
 pub fn file(random: &mut Random) -> Vec<u8> {
-    let mut words = file_words(random);
+    let words = file_words(random);
+    now_and_then_changed(random, words)
+}
+
+pub(crate) fn now_and_then_changed(random: &mut Random, mut words: Vec<u32>) -> Vec<u8> {
     if random.once_in(4) {
         for _ in 0..random.within(1, 3) {
             change_field(random, &mut words);
@@ -68,7 +77,11 @@ pub fn file(random: &mut Random) -> Vec<u8> {
 
 /// A bale file with one to three damages, which number 9 mostly refuses.
 pub fn damaged_file(random: &mut Random) -> Vec<u8> {
-    let mut words = file_words(random);
+    let words = file_words(random);
+    damaged(random, words)
+}
+
+pub(crate) fn damaged(random: &mut Random, mut words: Vec<u32>) -> Vec<u8> {
     if random.once_in(4) {
         change_field(random, &mut words);
     }

@@ -1,18 +1,46 @@
-//! Shifts by seed, good and damaged: bale files one after the other.
+//! Shifts by seed, good and damaged: bale files one after the other, of which some
+//! may have a base rate.
 
+use crate::generate_based_files::{based_file, damaged_based_file};
 use crate::generate_files::{damaged_file, file};
 use crate::random::Random;
 
 const END: [u8; 4] = (6u32 << 29).to_le_bytes();
 
+/// How a bale is drawn.
+type Draw = fn(&mut Random) -> Vec<u8>;
+
 /// Bales in good form, now and then one that a check refuses; seldom none.
 pub fn shift(random: &mut Random) -> Vec<u8> {
-    let count = if random.once_in(50) { 0 } else { random.within(1, 6) };
-    (0..count).flat_map(|_| file(random)).collect()
+    shift_of(random, file)
+}
+
+/// The same, with a base rate in about half of the bales.
+pub fn based_shift(random: &mut Random) -> Vec<u8> {
+    shift_of(random, either_file)
 }
 
 /// Bales of which some are damaged, and damages between two and behind the last.
 pub fn damaged_shift(random: &mut Random) -> Vec<u8> {
+    damaged_shift_of(random, file, damaged_file)
+}
+
+/// The same, with a base rate in about half of the good bales, and all damaged ones
+/// drawn with one.
+pub fn damaged_based_shift(random: &mut Random) -> Vec<u8> {
+    damaged_shift_of(random, either_file, damaged_based_file)
+}
+
+fn either_file(random: &mut Random) -> Vec<u8> {
+    if random.once_in(2) { based_file(random) } else { file(random) }
+}
+
+fn shift_of(random: &mut Random, file: Draw) -> Vec<u8> {
+    let count = if random.once_in(50) { 0 } else { random.within(1, 6) };
+    (0..count).flat_map(|_| file(random)).collect()
+}
+
+fn damaged_shift_of(random: &mut Random, file: Draw, damaged_file: Draw) -> Vec<u8> {
     let mut bytes = Vec::new();
     for _ in 0..random.within(1, 6) {
         if random.once_in(4) {

@@ -8,10 +8,11 @@ use std::process::ExitCode;
 use oracle::alone::parts_answer_alone;
 use oracle::call::{call, call_with_bounds};
 use oracle::random::Random;
-use oracle::{bale, generate, generate_files, generate_shifts, log_table, selfcheck, shift, text, tree};
+use oracle::{bale, generate, generate_based_files, generate_files, generate_shifts, log_table, selfcheck, shift, text, tree};
 
 const USAGE: &str = "usage: oracle bale | shift | call [--bounds] | tree | table | selfcheck
-     | generate files|damaged|shifts|damaged-shifts|calls|limits SEED COUNT DIR | bounds SEED COUNT | alone SEED COUNT";
+     | generate files|damaged|based|damaged-based|shifts|damaged-shifts|based-shifts|damaged-based-shifts|calls|limits SEED COUNT DIR
+     | bounds SEED COUNT | alone SEED COUNT";
 
 fn main() -> ExitCode {
     let arguments: Vec<String> = std::env::args().skip(1).collect();
@@ -79,8 +80,12 @@ fn write_files(kind: &str, seed: u64, count: u64, folder: &Path) -> Result<bool,
         let (ending, bytes) = match kind {
             "files" => ("bale", generate_files::file(&mut random)),
             "damaged" => ("bale", generate_files::damaged_file(&mut random)),
+            "based" => ("bale", generate_based_files::based_file(&mut random)),
+            "damaged-based" => ("bale", generate_based_files::damaged_based_file(&mut random)),
             "shifts" => ("shift", generate_shifts::shift(&mut random)),
             "damaged-shifts" => ("shift", generate_shifts::damaged_shift(&mut random)),
+            "based-shifts" => ("shift", generate_shifts::based_shift(&mut random)),
+            "damaged-based-shifts" => ("shift", generate_shifts::damaged_based_shift(&mut random)),
             "calls" => ("call", text::write_call(&generate::any_call(&mut random)).into_bytes()),
             "limits" => ("call", text::write_call(&generate::limits_call(&mut random)).into_bytes()),
             _ => return Err(format!("no kind {kind}")),

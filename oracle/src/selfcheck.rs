@@ -8,6 +8,7 @@ use crate::log_table;
 use crate::pieces::{ln, noisy_or};
 use crate::queue::{OrderedFloat, PriorityQueue};
 use crate::random::Random;
+use crate::selfcheck_base_rates::base_rates;
 use crate::selfcheck_belts::belts;
 use crate::selfcheck_calls::{edges_of_range, graphs, order_of_refusals, refusals, wide_marks};
 use crate::selfcheck_patterns::patterns;
@@ -43,6 +44,7 @@ pub fn run() -> bool {
     order_of_refusals(&mut tally);
     wide_marks(&mut tally);
     files(&mut tally);
+    base_rates(&mut tally);
     generated(&mut tally);
     belts(&mut tally);
     patterns(&mut tally);
@@ -140,7 +142,7 @@ fn files(tally: &mut Tally) {
     check("three bytes over", &LISTED, &[0, 0, 0], "refused 9 at 6\n");
     check("a bad word before a missing end", &with(3, 0)[..4], &[1], "refused 9 at 3\n");
     check("a set bit outside the fields", &with(5, 0xC0000001), &[], "refused 9 at 5\n");
-    check("kind 7", &with(2, 0xE0000001), &[], "refused 9 at 2\n");
+    check("kind 7 in the grades' place", &with(2, 0xE0000001), &[], "refused 9 at 3\n");
     check("a word after the end", &[LISTED.as_slice(), &[0xC0000000]].concat(), &[], "refused 9 at 6\n");
     let crowded = [0x20000200, 0x40000200, 0x60000019, 0xC0000000];
     check("over 24 grades, before a bad setting", &crowded, &[], "refused 1 at 0\n");

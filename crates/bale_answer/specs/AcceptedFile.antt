@@ -5,7 +5,7 @@ use mathlib.Core.Path.{_≡_, sym, ap, _∙_, subst}
 use mathlib.Core.List.{List}
 use lib.ListN.{length, length-map}
 use Rattle.definition.specs.Refusals.{accepted, verdict}
-use Rattle.definition.specs.BaleFile.{words, bits, wordsOfKind, evidenceOf, pairOf, settingsOfWords, baleOfWords}
+use Rattle.definition.specs.BaleFile.{words, bits, wordsOfKind, baseRate, evidenceOf, pairOf, settingsOfWords, baleOfWords}
 use Rattle.definition.specs.FileAnswer.{buffers, fileVerdict}
 use Rattle.bale_file.specs.declared.decoder.Decoder.{Decoder}
 use Rattle.bale_answer.specs.Taken.{Taken}
@@ -26,11 +26,11 @@ unfolding baleOfWords
 accepted-file bs d ms ps t e =
     let passed = verdict-passed bs e in
     let D = decoded bs d ms ps t (passed .0) in
-    let c = counts-within bs d ms ps (record { taken = t; whole = passed .0; within = sym (over-is bs d ms ps t (passed .0)) ∙ passed .1 }) in
-    let m = length-map (wordsOfKind 4 (words bs)) evidenceOf in
+    let c = counts-within bs d ms ps (record { taken = t; whole = passed .0; not-zero = passed .1; within = sym (over-is bs d ms ps t (passed .0)) ∙ passed .2 }) in
+    let m = length-map (wordsOfKind 4 (words bs)) (evidenceOf (baseRate (words bs))) in
     let p = length-map (wordsOfKind 5 (words bs)) pairOf in
     record {
-      accepts = sym (verdict-small bs (passed .0) (passed .1)) ∙ e;
+      accepts = sym (verdict-small bs (passed .0) (passed .1) (passed .2)) ∙ e;
       grades-are = ap (bits 11 0) (D .grades);
       markers-are = omega (arith, m, D .markers, c .1);
       pairs-are = omega (arith, p, D .pairs, c .2);

@@ -1,18 +1,20 @@
--- The program's own checks, number 9 and number 1, as verdicts.
+-- The program's own checks, numbers 9, 11 and 1, as verdicts.
 use Prim.Native.Nat.{ℕ}
 use mathlib.Core.Path.{_≡_, refl, sym, ap, _∙_, subst}
-use mathlib.Core.Bool.{Bool, true, false, _||_}
+use mathlib.Core.Bool.{Bool, true, false, cond, _||_}
 use mathlib.Core.Option.{Option, none, some}
 use mathlib.Core.List.{List, [], _∷_}
 use lib.Dec.{ltb}
 use Rattle.definition.specs.BaleFile.{words, badWord, bits, baleOfWords}
 use Rattle.definition.specs.Refusals.{Verdict, accepted, refused, tooMany, lowestPlaceFrom, lowestPlace, orRefused}
 use Rattle.definition.specs.FileAnswer.{fileVerdict}
+use Rattle.base_rate_laws.specs.Kinds.{saysZero, zeroPlace}
 use Rattle.bale_file.specs.declared.decoder.Decoder.{Decoder}
+use Rattle.bale_file.specs.Base.{rateOf}
 use Rattle.bale_file.specs.Decoder.{finished}
 use Rattle.bale_answer.specs.declared.refusals.Check.{Check}
 use Rattle.bale_answer.specs.declared.refusals.Check.the-variants.{Refused, Passed}
-use Rattle.bale_answer.specs.Cases.{Refuses, verdict-bad, verdict-large}
+use Rattle.bale_answer.specs.Cases.{Refuses, zeroAt, verdict-bad, verdict-zero, verdict-large}
 
 abbrev pub checkOf : Check → Verdict
 checkOf (Refused n p) = refused n p
@@ -24,6 +26,10 @@ overCounts d = ltb 24 (bits 11 0 (d .reading .grades)) || ltb 24 (d .reading .ma
 
 unfoldable pub fileCheck : Decoder → Verdict
 fileCheck d = orRefused 9 (finished d) accepted
+
+-- in a good file the word is word 2
+unfoldable pub baseCheck : Decoder → Verdict
+baseCheck d = orRefused 11 (zeroPlace (rateOf (d .reading .base))) accepted
 
 unfoldable pub sizeCheck : Decoder → Verdict
 sizeCheck d = orRefused 1 (lowestPlace (overCounts d ∷ [])) accepted
@@ -43,6 +49,18 @@ pub file-good : (d : Decoder) (o : Option ℕ) → o ≡ finished d → o ≡ no
 unfolding fileCheck orRefused
 file-good d o e f = ap (λ (x : Option ℕ). orRefused 9 x accepted) (sym f ∙ e)
 
+module _ (d : Decoder) (b : Bool) (e : b ≡ saysZero (rateOf (d .reading .base))) where
+  place : (v : Bool) → b ≡ v → cond v (some 2) none ≡ zeroPlace (rateOf (d .reading .base))
+  place v k = ap (λ (z : Bool). cond z (some 2) none) (sym k ∙ e)
+
+  pub base-zero : b ≡ true → refused 11 2 ≡ baseCheck d
+  unfolding baseCheck orRefused
+  base-zero k = ap (λ (o : Option ℕ). orRefused 11 o accepted) (place true k)
+
+  pub base-passed : b ≡ false → accepted ≡ baseCheck d
+  unfolding baseCheck orRefused
+  base-passed k = ap (λ (o : Option ℕ). orRefused 11 o accepted) (place false k)
+
 module _ (d : Decoder) (g : ℕ) (b : Bool) (e : g ≡ bits 11 0 (d .reading .grades)) (o : b ≡ (ltb 24 g || ltb 24 (d .reading .markers) || ltb 140 (d .reading .pairs))) where
   counted : (v : Bool) → b ≡ v → v ≡ overCounts d
   counted v k = sym k ∙ o ∙ ap (λ (n : ℕ). ltb 24 n || ltb 24 (d .reading .markers) || ltb 140 (d .reading .pairs)) e
@@ -55,38 +73,47 @@ module _ (d : Decoder) (g : ℕ) (b : Bool) (e : g ≡ bits 11 0 (d .reading .gr
   unfolding sizeCheck orRefused lowestPlace lowestPlaceFrom
   size-small k = ap (λ (x : Bool). orRefused 1 (lowestPlace (x ∷ [])) accepted) (counted false k)
 
--- ---- both checks
+-- ---- all three
 
 abbrev Accepts : Verdict → Type 0
 Accepts accepted = Unit {0}
 Accepts (refused n p) = ⊥
 
-abbrev both : Option ℕ → Bool → Verdict
-both o b = firstOf (orRefused 9 o accepted) (orRefused 1 (lowestPlace (b ∷ [])) accepted)
+abbrev pub ownChecks : Decoder → Verdict
+ownChecks d = firstOf (firstOf (fileCheck d) (baseCheck d)) (sizeCheck d)
+
+abbrev three : Option ℕ → Option ℕ → Bool → Verdict
+three o z b = firstOf (firstOf (orRefused 9 o accepted) (orRefused 11 z accepted)) (orRefused 1 (lowestPlace (b ∷ [])) accepted)
 
 pub own-is :
-    (d : Decoder) (file size first v : Verdict) → file ≡ fileCheck d → size ≡ sizeCheck d → first ≡ firstOf file size → first ≡ v →
-    firstOf (fileCheck d) (sizeCheck d) ≡ v
-own-is d file size first v f s e k = (λ i. firstOf (sym f i) (sym s i)) ∙ sym e ∙ k
+    (d : Decoder) (file base size two first v : Verdict) → file ≡ fileCheck d → base ≡ baseCheck d → size ≡ sizeCheck d →
+    two ≡ firstOf file base → first ≡ firstOf two size → first ≡ v → ownChecks d ≡ v
+own-is d file base size two first v f b s t e k = (λ i. firstOf (firstOf (sym f i) (sym b i)) (sym s i)) ∙ ap (λ (x : Verdict). firstOf x size) (sym t) ∙ sym e ∙ k
 
--- a refusal of theirs is the file's, whose words are bad or too many
+-- a refusal of theirs is the file's, whose words are bad, say a base rate of 0, or are too many
 pub own-refused :
-    (bs : List ℕ) (d : Decoder) → finished d ≡ badWord bs → (badWord bs ≡ none → tooMany 24 24 140 (baleOfWords (words bs)) ≡ overCounts d) →
-    (n p : ℕ) → firstOf (fileCheck d) (sizeCheck d) ≡ refused n p → fileVerdict bs ≡ refused n p
-unfolding fileCheck sizeCheck orRefused lowestPlace lowestPlaceFrom
-own-refused bs d e over n p h = go (finished d) (overCounts d) (sym e) over h
+    (bs : List ℕ) (d : Decoder) → finished d ≡ badWord bs →
+    (badWord bs ≡ none → zeroAt bs ≡ zeroPlace (rateOf (d .reading .base))) →
+    (badWord bs ≡ none → tooMany 24 24 140 (baleOfWords (words bs)) ≡ overCounts d) →
+    (n p : ℕ) → ownChecks d ≡ refused n p → fileVerdict bs ≡ refused n p
+unfolding fileCheck baseCheck sizeCheck orRefused lowestPlace lowestPlaceFrom
+own-refused bs d e zero over n p h = go (finished d) (zeroPlace (rateOf (d .reading .base))) (overCounts d) (sym e) zero over h
   where
-    go : (o : Option ℕ) (b : Bool) → badWord bs ≡ o → (badWord bs ≡ none → tooMany 24 24 140 (baleOfWords (words bs)) ≡ b) → both o b ≡ refused n p → fileVerdict bs ≡ refused n p
-    go (some i) b e over h = verdict-bad bs i e ∙ h
-    go none true e over h = verdict-large bs e (over e) ∙ h
-    go none false e over h = absurd (subst Accepts h tt)
+    go :
+        (o z : Option ℕ) (b : Bool) → badWord bs ≡ o → (badWord bs ≡ none → zeroAt bs ≡ z) →
+        (badWord bs ≡ none → tooMany 24 24 140 (baleOfWords (words bs)) ≡ b) → three o z b ≡ refused n p → fileVerdict bs ≡ refused n p
+    go (some i) z b e zero over h = verdict-bad bs i e ∙ h
+    go none (some i) b e zero over h = verdict-zero bs i e (zero e) ∙ h
+    go none none true e zero over h = verdict-large bs e (zero e) (over e) ∙ h
+    go none none false e zero over h = absurd (subst Accepts h tt)
 
--- where they pass, the file is good and not too large
-pub own-passed : (d : Decoder) → firstOf (fileCheck d) (sizeCheck d) ≡ accepted → (finished d ≡ none) × (overCounts d ≡ false)
-unfolding fileCheck sizeCheck orRefused lowestPlace lowestPlaceFrom
-own-passed d h = go (finished d) (overCounts d) h
+-- where they pass, the file is good and not too large, and has no base rate of 0
+pub own-passed : (d : Decoder) → ownChecks d ≡ accepted → (finished d ≡ none) × (zeroPlace (rateOf (d .reading .base)) ≡ none) × (overCounts d ≡ false)
+unfolding fileCheck baseCheck sizeCheck orRefused lowestPlace lowestPlaceFrom
+own-passed d h = go (finished d) (zeroPlace (rateOf (d .reading .base))) (overCounts d) h
   where
-    go : (o : Option ℕ) (b : Bool) → both o b ≡ accepted → (o ≡ none) × (b ≡ false)
-    go (some i) b h = absurd (subst Refuses h tt)
-    go none true h = absurd (subst Refuses h tt)
-    go none false h = (refl, refl)
+    go : (o z : Option ℕ) (b : Bool) → three o z b ≡ accepted → (o ≡ none) × (z ≡ none) × (b ≡ false)
+    go (some i) z b h = absurd (subst Refuses h tt)
+    go none (some i) b h = absurd (subst Refuses h tt)
+    go none none true h = absurd (subst Refuses h tt)
+    go none none false h = (refl, refl, refl)

@@ -1,4 +1,4 @@
--- A good file, as the decoder has it: whether it is too large, and the bale and the settings that it stands for.
+-- A good file, as the decoder has it: whether its base rate is 0, whether it is too large, and the bale and the settings that it stands for.
 use Prim.Native.Nat.{ℕ, _*_, _≤_, _<_, min}
 use native.Mathlib.Omega.{arith}
 use mathlib.Core.Path.{_≡_, sym, ap, _∙_, subst}
@@ -12,22 +12,25 @@ use lib.ListN.{length, take, length-map}
 use lib.Seq.{length-take-le}
 use Rattle.definition.specs.Call.{Lent, sizesOf, resultOf, call}
 use Rattle.definition.specs.Refusals.{markersOf, pairsOf, tooMany, Verdict, verdict}
-use Rattle.definition.specs.BaleFile.{words, badWord, bits, wordsOfKind, evidenceOf, pairOf, settingsOfWords, baleOfWords, codedSettings}
+use Rattle.definition.specs.BaleFile.{words, badWord, bits, wordsOfKind, baseRate, evidenceOf, pairOf, settingsOfWords, baleOfWords, codedSettings}
 use Rattle.definition.specs.FileAnswer.{buffers, fileResult}
 use Rattle.graph_laws.specs.Bools.{bool-iff, or-no, no-ltb}
+use Rattle.base_rate_laws.specs.Kinds.{zeroPlace, zero-base-at}
 use Rattle.bale_file.specs.declared.decoder.Decoder.{Decoder}
+use Rattle.bale_file.specs.Base.{rateOf}
 use Rattle.bale_file.specs.Reading.{mostWords}
 use Rattle.bale_file.specs.Decoder.{fedOf}
 use Rattle.bale_file.specs.Decoded.{Decoded, decoded-good}
-use Rattle.bale_file.specs.DecodedBale.{decoded-settings, decoded-bale}
+use Rattle.bale_file.specs.DecodedBale.{decoded-settings, decoded-rate, decoded-bale}
 use Rattle.bale_answer.specs.Taken.{Taken}
 use Rattle.bale_answer.specs.Checks.{overCounts}
-use Rattle.bale_answer.specs.Cases.{verdict-small}
+use Rattle.bale_answer.specs.Cases.{zeroAt, verdict-small}
 
--- a good file that is not over these
+-- a good file that is not over these, with no base rate of 0
 pub record Small (bs : List ℕ) (d : Decoder) (ms ps : List ℕ) : Type 0 where
   pub taken : Taken bs d ms ps
   pub whole : badWord bs ≡ none
+  pub not-zero : zeroAt bs ≡ none
   pub within : overCounts d ≡ false
 
 pub record SomeSmall (d : Decoder) (ms ps : List ℕ) : Type 0 where
@@ -42,10 +45,13 @@ module _ (bs : List ℕ) (d : Decoder) (ms ps : List ℕ) (t : Taken bs d ms ps)
   pub decoded : Decoded bs (t .markersBefore) (t .pairsBefore) (fedOf d ms ps)
   decoded = subst (Decoded bs (t .markersBefore) (t .pairsBefore)) (sym (t .is-fed)) (decoded-good bs (t .markersBefore) (t .pairsBefore) whole)
 
+  pub zero-is : zeroAt bs ≡ zeroPlace (rateOf (d .reading .base))
+  zero-is = zero-base-at bs whole ∙ ap zeroPlace (sym (decoded-rate bs (t .markersBefore) (t .pairsBefore) (fedOf d ms ps) decoded))
+
   pub over-is : tooMany 24 24 140 (baleOfWords (words bs)) ≡ overCounts d
   unfolding tooMany baleOfWords
   over-is =
-      let m = ap (ltb 24) (length-map (wordsOfKind 4 (words bs)) evidenceOf) ∙ stopped 24 mostWords (length (wordsOfKind 4 (words bs))) (lit≤ tt) ∙ ap (ltb 24) (sym (decoded .markers)) in
+      let m = ap (ltb 24) (length-map (wordsOfKind 4 (words bs)) (evidenceOf (baseRate (words bs)))) ∙ stopped 24 mostWords (length (wordsOfKind 4 (words bs))) (lit≤ tt) ∙ ap (ltb 24) (sym (decoded .markers)) in
       let p = ap (ltb 140) (length-map (wordsOfKind 5 (words bs)) pairOf) ∙ stopped 140 mostWords (length (wordsOfKind 5 (words bs))) (lit≤ tt) ∙ ap (ltb 140) (sym (decoded .pairs)) in
       λ i. ltb 24 (bits 11 0 (sym (decoded .grades) i)) || m i || p i
 
@@ -75,7 +81,7 @@ module _ (bs : List ℕ) (d : Decoder) (ms ps : List ℕ) (h : Small bs d ms ps)
   -- where the words of the markers and the pairs stand in two slices as floats and numbers, a call with these is the file's
   pub small-result :
       (es : List Float) (qs : List ℕ) (l : Lent) → sizesOf l ≡ buffers →
-      markersOf es ≡ map evidenceOf (take (d .reading .markers) ms) →
+      markersOf es ≡ map (evidenceOf (rateOf (d .reading .base))) (take (d .reading .markers) ms) →
       pairsOf qs ≡ map pairOf (take (d .reading .pairs) ps) →
       call (codedSettings (d .reading .rates) (d .reading .prior)) (bits 11 0 (d .reading .grades)) es qs l ≡ fileResult bs l
   unfolding call fileResult
@@ -89,4 +95,4 @@ module _ (bs : List ℕ) (d : Decoder) (ms ps : List ℕ) (h : Small bs d ms ps)
       (omega (arith, c .1)) (omega (arith, c .1, t .markers-before)) (omega (arith, c .2)) (omega (arith, c .2, t .pairs-before)) m p in
       (λ i. resultOf (verdict (e i) (z i) (g i)) (e i) (g i) l)
       ∙ ap (λ (v : Verdict). resultOf v (settingsOfWords (words bs)) (baleOfWords (words bs)) l)
-      (sym (verdict-small bs (h .whole) (over-is bs d ms ps t (h .whole) ∙ h .within)))
+      (sym (verdict-small bs (h .whole) (h .not-zero) (over-is bs d ms ps t (h .whole) ∙ h .within)))

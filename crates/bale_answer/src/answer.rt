@@ -10,6 +10,7 @@ ghost use Rattle.bale_answer.specs.Good.{Small, SomeSmall};
 ghost use Rattle.bale_answer.specs.Outcomes.{fileResultWith};
 use crate::call::call_words;
 use crate::refusals::Check;
+use crate::refusals::check_base;
 use crate::refusals::check_file;
 use crate::refusals::check_size;
 use crate::refusals::first_refusal;
@@ -77,8 +78,9 @@ pub fn answer_bale(
     ensures { λ r. ⌜ ((bs : List ℕ) → Taken bs decoder (now (markers .entry)) (now (pairs .entry)) → fileResultWith r (lentWith (now («work_floats» .exit)) (now («work_numbers» .exit)) (now («belief_numbers» .exit)) (now («belief_floats» .exit)) (now («ending_numbers» .exit)) (now («ending_floats» .exit))) ≡ fileResult bs (lentWith (now («work_floats» .entry)) (now («work_numbers» .entry)) (now («belief_numbers» .entry)) (now («belief_floats» .entry)) (now («ending_numbers» .entry)) (now («ending_floats» .entry)))) ⌝ }
 {
     let file = check_file(decoder);
+    let base = check_base(decoder);
     let size = check_size(decoder);
-    let first = first_refusal(file, size);
+    let first = first_refusal(first_refusal(file, base), size);
     if let Check::Refused(number, place) = first {
         return FileOutcome::Refused(number, place);
     }

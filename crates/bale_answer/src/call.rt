@@ -6,6 +6,7 @@ ghost use lib.ListN.{length};
 ghost use Rattle.definition.specs.BaleFile.{bits, codedSettings, evidenceOf, pairOf};
 ghost use Rattle.definition.specs.Refusals.{markersOf, pairsOf};
 ghost use Rattle.definition.specs.Call.{call};
+ghost use Rattle.bale_file.specs.Base.{rateOf};
 ghost use Rattle.zero_lookahead_belief_propagation.specs.Called.{resultWith, lentWith};
 use bale_file::Decoder;
 use zero_lookahead_belief_propagation::Outcome;
@@ -65,12 +66,12 @@ pub(crate) fn call_words(
     ending_floats: &mut [f32],
 ) -> Outcome
     requires { ⌜ (length (now evidence) ≡ 2 * length (now markers)) × (length (now numbers) ≡ 2 * length (now pairs)) ⌝ }
-    ensures { λ _. ⌜ (markersOf (now (evidence .exit)) ≡ map evidenceOf (now (markers .entry))) × (pairsOf (now (numbers .exit)) ≡ map pairOf (now (pairs .entry))) ⌝ }
+    ensures { λ _. ⌜ (markersOf (now (evidence .exit)) ≡ map (evidenceOf (rateOf (decoder .reading .base))) (now (markers .entry))) × (pairsOf (now (numbers .exit)) ≡ map pairOf (now (pairs .entry))) ⌝ }
     ensures { λ r. ⌜ resultWith r (lentWith (now («work_floats» .exit)) (now («work_numbers» .exit)) (now («belief_numbers» .exit)) (now («belief_floats» .exit)) (now («ending_numbers» .exit)) (now («ending_floats» .exit))) ≡ call (codedSettings (decoder .reading .rates) (decoder .reading .prior)) (bits 11 0 (decoder .reading .grades)) (now (evidence .exit)) (now (numbers .exit)) (lentWith (now («work_floats» .entry)) (now («work_numbers» .entry)) (now («belief_numbers» .entry)) (now («belief_floats» .entry)) (now («ending_numbers» .entry)) (now («ending_floats» .entry))) ⌝ }
 {
-    bale_file::fill_evidence(markers, evidence);
-    bale_file::fill_pairs(pairs, numbers);
     let reading = decoder.reading;
+    bale_file::fill_evidence(markers, reading.base, evidence);
+    bale_file::fill_pairs(pairs, numbers);
     let grades = bale_file::grade_count(reading.grades);
     calibrate(
         reading.rates,

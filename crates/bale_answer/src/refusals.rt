@@ -1,8 +1,8 @@
-// The program's own checks, which come before the library's: number 9, then number 1.
+// The program's own checks, which come before the library's: number 9, then 11, then 1.
 ghost use mathlib.Core.Path.{_≡_};
 ghost use mathlib.Core.Bool.{_||_};
 ghost use lib.Dec.{ltb};
-ghost use Rattle.bale_answer.specs.Checks.{checkOf, fileCheck, sizeCheck, firstOf};
+ghost use Rattle.bale_answer.specs.Checks.{checkOf, fileCheck, baseCheck, sizeCheck, firstOf};
 use bale_file::Decoder;
 use bale_file::File;
 
@@ -38,6 +38,20 @@ pub(crate) fn check_file(decoder: Decoder) -> Check
     let file = bale_file::finish(decoder);
     if let File::Bad(place) = file {
         return Check::Refused(9, place);
+    }
+    Check::Passed
+}
+
+// Where a good file has its word of kind 7.
+const BASE_PLACE: u64 = 2;
+
+// Number 11: the base rate is 0.
+pub(crate) fn check_base(decoder: Decoder) -> Check
+    ensures { λ r. ⌜ checkOf r ≡ baseCheck decoder ⌝ }
+{
+    let reading = decoder.reading;
+    if bale_file::is_zero_base(reading.base) {
+        return Check::Refused(11, BASE_PLACE);
     }
     Check::Passed
 }

@@ -5,15 +5,16 @@ use mathlib.Core.Path.{_≡_, refl, ap, _∙_}
 use mathlib.Core.Bool.{Bool, true, false, cond, not}
 use mathlib.Core.Option.{none}
 use mathlib.Core.List.{List, [], _∷_}
-use lib.Dec.{eqb, ltb}
-use lib.ListN.{length, take}
+use lib.Dec.{eqb}
+use lib.ListN.{length, getD, take}
 use Rattle.definition.specs.BaleFile.{words, badWord, wordsOfKind, firstOfKind}
+use Rattle.base_rate_laws.specs.Kinds.{once}
 use Rattle.bale_file.specs.declared.reading.Reading.{Reading}
 use Rattle.bale_file.specs.Reading.{Held, heldOf, mostWords, keptWord, readWords}
 use Rattle.bale_file.specs.Decoder.{Fed, fedOf, fedHeld, heldIn, started, fedAt, fedByte, fed, endOf, finished}
 use Rattle.bale_file.specs.Places.{bad-place}
-use Rattle.bale_file.specs.Onto.{Slots, slotsOf, onto, putOne, putAll, put-all, all-there}
-use Rattle.bale_file.specs.Kinds.{single, every}
+use Rattle.bale_file.specs.Onto.{Slots, slotsOf, onto, putEach, putOne, put-all, all-there}
+use Rattle.bale_file.specs.Kinds.{every, only-one}
 
 -- ---- the two slices
 
@@ -81,11 +82,12 @@ module _ (bs ms ps : List ℕ) where
 
 -- ---- a good file
 
--- the words of kinds 1, 2 and 3; how many there are of kinds 4 and 5, and the first that fit
+-- the words of kinds 1, 2, 3 and 7; how many there are of kinds 4 and 5, and the first that fit
 pub record Decoded (bs ms ps : List ℕ) (f : Fed) : Type 0 where
   pub rates : f .decoder .reading .rates ≡ firstOfKind 1 (words bs)
   pub prior : f .decoder .reading .prior ≡ firstOfKind 2 (words bs)
   pub grades : f .decoder .reading .grades ≡ firstOfKind 3 (words bs)
+  pub base : f .decoder .reading .base ≡ firstOfKind 7 (words bs)
   pub markers : f .decoder .reading .markers ≡ min mostWords (length (wordsOfKind 4 (words bs)))
   pub pairs : f .decoder .reading .pairs ≡ min mostWords (length (wordsOfKind 5 (words bs)))
   pub markerWords : f .markers ≡ onto (take mostWords (wordsOfKind 4 (words bs))) ms
@@ -95,36 +97,39 @@ module _ (bs ms ps : List ℕ) (whole : badWord bs ≡ none) where
   abbrev all : Held
   all = readWords (words bs) (empty bs ms ps)
 
-  one :
-      (k : ℕ) →
-      k < 4 →
-      (field : Reading → ℕ) →
-      ((w n : ℕ) (h : Held) → field (keptWord w n h .reading) ≡ cond (eqb n k) w (field (h .reading))) →
-      field (all .reading) ≡ cond (ltb 0 k) (firstOfKind k (words bs)) (field (started .reading))
-  unfolding badWord
-  one k l field kept = single k l field kept (not (eqb (length bs % 4) 0)) 0 (words bs) (empty bs ms ps) refl whole
-
   many :
-      (k : ℕ) (view : Held → Slots) →
-      ((w n : ℕ) (h : Held) → view (keptWord w n h) ≡ cond (eqb n k) (putOne mostWords w (view h)) (view h)) →
-      view all ≡ putAll mostWords (wordsOfKind k (words bs)) (view (empty bs ms ps))
+      {A : Type 0} (k : ℕ) (put : ℕ → A → A) (view : Held → A) →
+      ((w n : ℕ) (h : Held) → view (keptWord w n h) ≡ cond (eqb n k) (put w (view h)) (view h)) →
+      view all ≡ putEach put (wordsOfKind k (words bs)) (view (empty bs ms ps))
   unfolding badWord
-  many k view kept = every k mostWords view kept (not (eqb (length bs % 4) 0)) 0 (words bs) (empty bs ms ps) refl whole
+  many k put view kept = every k put view kept (not (eqb (length bs % 4) 0)) 0 (words bs) (empty bs ms ps) refl whole
+
+  -- a field that begins with 0 and takes the word of kind k
+  one :
+      (k : ℕ) → (k ≡ 4 → ⊥) → (k ≡ 5 → ⊥) → (field : Reading → ℕ) → field (started .reading) ≡ 0 →
+      ((w n : ℕ) (h : Held) → field (keptWord w n h .reading) ≡ cond (eqb n k) w (field (h .reading))) →
+      field (all .reading) ≡ firstOfKind k (words bs)
+  unfolding firstOfKind
+  one k four five field from kept =
+      many k (λ w a. w) (λ h. field (h .reading)) kept
+      ∙ only-one (wordsOfKind k (words bs)) (field (started .reading)) (once bs whole k four five)
+      ∙ ap (getD (wordsOfKind k (words bs)) 0) from
 
   four : markerSlots all ≡ slotsOf (min mostWords (length (wordsOfKind 4 (words bs)))) (onto (take mostWords (wordsOfKind 4 (words bs))) ms)
-  four = many 4 markerSlots kept-markers ∙ put-all mostWords (wordsOfKind 4 (words bs)) ms
+  four = many 4 (putOne mostWords) markerSlots kept-markers ∙ put-all mostWords (wordsOfKind 4 (words bs)) ms
 
   five : pairSlots all ≡ slotsOf (min mostWords (length (wordsOfKind 5 (words bs)))) (onto (take mostWords (wordsOfKind 5 (words bs))) ps)
-  five = many 5 pairSlots kept-pairs ∙ put-all mostWords (wordsOfKind 5 (words bs)) ps
+  five = many 5 (putOne mostWords) pairSlots kept-pairs ∙ put-all mostWords (wordsOfKind 5 (words bs)) ps
 
   pub decoded-good : Decoded bs ms ps (fedAll bs ms ps)
   unfolding keptWord
   decoded-good =
       let e = fed-held bs (empty bs ms ps) 0 0 0 in
       record {
-        rates = ap (λ (h : Held). h .reading .rates) e ∙ one 1 (omega arith) (λ r. r .rates) (λ w n h. refl);
-        prior = ap (λ (h : Held). h .reading .prior) e ∙ one 2 (omega arith) (λ r. r .prior) (λ w n h. refl);
-        grades = ap (λ (h : Held). h .reading .grades) e ∙ one 3 (omega arith) (λ r. r .grades) (λ w n h. refl);
+        rates = ap (λ (h : Held). h .reading .rates) e ∙ one 1 (λ e. omega arith) (λ e. omega arith) (λ r. r .rates) refl (λ w n h. refl);
+        prior = ap (λ (h : Held). h .reading .prior) e ∙ one 2 (λ e. omega arith) (λ e. omega arith) (λ r. r .prior) refl (λ w n h. refl);
+        grades = ap (λ (h : Held). h .reading .grades) e ∙ one 3 (λ e. omega arith) (λ e. omega arith) (λ r. r .grades) refl (λ w n h. refl);
+        base = ap (λ (h : Held). h .reading .base) e ∙ one 7 (λ e. omega arith) (λ e. omega arith) (λ r. r .base) refl (λ w n h. refl);
         markers = ap (λ (h : Held). h .reading .markers) e ∙ ap (λ (s : Slots). s .count) four;
         pairs = ap (λ (h : Held). h .reading .pairs) e ∙ ap (λ (s : Slots). s .count) five;
         markerWords = ap (λ (h : Held). h .markers) e ∙ ap (λ (s : Slots). s .slots) four;

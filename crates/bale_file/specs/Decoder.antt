@@ -33,7 +33,7 @@ abbrev pub heldIn : Fed → Held
 heldIn f = heldOf (f .decoder .reading) (f .markers) (f .pairs)
 
 abbrev pub started : Decoder
-started = decoderOf (record { place = 0; kind = 0; bad = false; rates = 0; prior = 0; grades = 0; markers = 0; pairs = 0 }) 0 0 0 0
+started = decoderOf (record { place = 0; kind = 0; bad = false; rates = 0; prior = 0; grades = 0; base = 0; markers = 0; pairs = 0 }) 0 0 0 0
 
 -- ---- bytes
 

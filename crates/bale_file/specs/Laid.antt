@@ -3,6 +3,7 @@ use Prim.Native.Nat.{ℕ, zero, suc, _+_, _*_, _/_, _≤_, _<_}
 use native.Mathlib.Numerals.{add-one}
 use native.Mathlib.Omega.{arith}
 use mathlib.Core.Path.{_≡_, refl, sym, ap, _∙_}
+use mathlib.Core.Option.{Option}
 use mathlib.Core.List.{List, [], _∷_, map}
 use lib.Ieee.{Float}
 use lib.ListN.{length, getD, set, take}
@@ -51,8 +52,8 @@ module _ {A : Type 0} (f g : ℕ → A) where
   pub laid-words : (n : ℕ) (ws : List ℕ) (xs : List A) → length ws ≤ n → n ≤ length xs / 2 → overwrite (inTwos (take n ws)) xs ≡ laid ws xs
   laid-words n ws xs h k = ap (λ (vs : List ℕ). overwrite (inTwos vs) xs) (take-all n ws h ∙ sym (take-all (length xs / 2) ws (omega arith)))
 
-abbrev pub evidenceLaid : List ℕ → List Float → List Float
-evidenceLaid = laid (λ w. evidenceOf w .absent) (λ w. evidenceOf w .present)
+abbrev pub evidenceLaid : Option ℕ → List ℕ → List Float → List Float
+evidenceLaid b = laid (λ w. evidenceOf b w .absent) (λ w. evidenceOf b w .present)
 
 abbrev pub pairsLaid : List ℕ → List ℕ → List ℕ
 pairsLaid = laid (λ w. pairOf w .grade) (λ w. pairOf w .marker)
@@ -70,9 +71,10 @@ module _ {A B : Type 0} (f g : ℕ → A) (h : A → A → B) where
   laid-twos : (ws : List ℕ) (xs : List A) → length xs ≡ 2 * length ws → twos h (laid f g ws xs) ≡ map (λ w. h (f w) (g w)) ws
   laid-twos ws xs e = ap (λ (vs : List ℕ). twos h (overwrite (inTwos f g vs) xs)) (take-all (length xs / 2) ws (omega arith)) ∙ all-laid ws xs e
 
-pub laid-markers : (ws : List ℕ) (xs : List Float) → length xs ≡ 2 * length ws → markersOf (evidenceLaid ws xs) ≡ map evidenceOf ws
-unfolding markersOf evidenceOf
-laid-markers = laid-twos (λ w. evidenceOf w .absent) (λ w. evidenceOf w .present) (λ a p. record { absent = a; present = p })
+pub laid-markers :
+    (b : Option ℕ) (ws : List ℕ) (xs : List Float) → length xs ≡ 2 * length ws → markersOf (evidenceLaid b ws xs) ≡ map (evidenceOf b) ws
+unfolding markersOf
+laid-markers b = laid-twos (λ w. evidenceOf b w .absent) (λ w. evidenceOf b w .present) (λ a p. record { absent = a; present = p })
 
 pub laid-pairs : (ws xs : List ℕ) → length xs ≡ 2 * length ws → pairsOf (pairsLaid ws xs) ≡ map pairOf ws
 unfolding pairsOf pairOf

@@ -1,5 +1,6 @@
 -- The models of the reading and of the decoder, the laws that their proofs cite, and what is decoded in the definition's terms (Decoded, DecodedBale, FirstBale).
 pub mod Words
+pub mod Base
 pub mod Reading
 pub mod ReadingSteps
 pub mod Decoder

@@ -37,13 +37,18 @@ pub record Slots : Type 0 where
 abbrev pub slotsOf : ℕ → List ℕ → Slots
 slotsOf n xs = record { count = n; slots = xs }
 
+-- words put one after the other
+module _ {A : Type 0} (put : ℕ → A → A) where
+  abbrev pub putEach : List ℕ → A → A
+  putEach [] a = a
+  putEach (w ∷ ws) a = putEach ws (put w a)
+
 module _ (most : ℕ) where
   unfoldable pub putOne : ℕ → Slots → Slots
   putOne w s = slotsOf (oneMore most (s .count)) (putAt most (s .slots) (s .count) w)
 
-  unfoldable pub putAll : List ℕ → Slots → Slots
-  putAll [] s = s
-  putAll (w ∷ ws) s = putAll ws (putOne w s)
+  abbrev pub putAll : List ℕ → Slots → Slots
+  putAll = putEach putOne
 
   put-room : (w n : ℕ) (xs : List ℕ) → ltb n most ≡ true → putOne w (slotsOf n xs) ≡ slotsOf (n + 1) (set xs n w)
   unfolding putOne oneMore putAt
@@ -63,7 +68,7 @@ module _ (most : ℕ) where
       rw (set-out xs n w a, take-all (n + 1) xs (omega arith), take-all n xs a, drop-of-length-le xs {i = n + 1} (omega arith), drop-of-length-le xs a, onto-nil ws)
 
   put-slots : (ws xs : List ℕ) (n : ℕ) → putAll ws (slotsOf n xs) .slots ≡ take n xs ++ onto (take (most - n) ws) (drop n xs)
-  unfolding putAll onto
+  unfolding onto
   put-slots [] xs n = rw take-nil (sym (take-append-drop n xs))
   put-slots (w ∷ ws) xs n = go (ltb n most) refl (put-slots ws xs n) (put-slots ws (set xs n w) (n + 1))
     where
@@ -91,7 +96,6 @@ module _ (most : ℕ) where
           ∙ ap (λ (k : ℕ). Front k (w ∷ ws) xs n) (sym d)
 
   put-count : (ws xs : List ℕ) (n : ℕ) → n ≤ most → putAll ws (slotsOf n xs) .count ≡ min most (n + length ws)
-  unfolding putAll
   put-count [] xs n l = omega arith
   put-count (w ∷ ws) xs n l = go (ltb n most) refl (put-count ws xs n l) (put-count ws (set xs n w) (n + 1))
     where

@@ -39,7 +39,7 @@ spoilt h =
     let r = h .reading in
     record {
       reading =
-          record { place = r .place; kind = r .kind; bad = true; rates = r .rates; prior = r .prior; grades = r .grades; markers = r .markers; pairs = r .pairs };
+          record { place = r .place; kind = r .kind; bad = true; rates = r .rates; prior = r .prior; grades = r .grades; base = r .base; markers = r .markers; pairs = r .pairs };
       markers = h .markers;
       pairs = h .pairs;
     }
@@ -57,6 +57,7 @@ keptWord w k h =
             rates = cond (eqb k 1) w (r .rates);
             prior = cond (eqb k 2) w (r .prior);
             grades = cond (eqb k 3) w (r .grades);
+            base = cond (eqb k 7) w (r .base);
             markers = cond (eqb k 4) (oneMore mostWords (r .markers)) (r .markers);
             pairs = cond (eqb k 5) (oneMore mostWords (r .pairs)) (r .pairs);
           };

@@ -42,6 +42,7 @@ pub fn start() -> Decoder
         rates: 0,
         prior: 0,
         grades: 0,
+        base: 0,
         markers: 0,
         pairs: 0,
     };

@@ -1,9 +1,12 @@
 // The fields of a good word, as the settings and the bale that they stand for.
 ghost use mathlib.Core.Path.{_≡_};
-ghost use Prim.Native.Nat.{_<_};
+ghost use mathlib.Core.Option.{none};
+ghost use Prim.Native.Nat.{_≤_, _<_};
 ghost use lib.Dec.{eqb};
 ghost use Rattle.definition.specs.BaleFile.{bits, evidenceOf};
 ghost use Rattle.definition.specs.Floats.{ratio};
+ghost use Rattle.base_rate_laws.specs.Kinds.{saysZero};
+ghost use Rattle.bale_file.specs.Base.{rateOf};
 
 // Bits 19 to 10: alpha of the rates, the grade of a pair.
 pub fn upper_ten(word: u32) -> u32
@@ -21,7 +24,7 @@ pub fn lower_ten(word: u32) -> u32
 
 // A setting in 1,024ths.
 pub fn over_1024(n: u32) -> f32
-    requires { ⌜ n < 1024 ⌝ }
+    requires { ⌜ n ≤ 1024 ⌝ }
     ensures { λ r. ⌜ r ≡ ratio n 1024 ⌝ }
 {
     (n as f32) / 1024.0
@@ -62,9 +65,19 @@ pub fn grade_count(word: u32) -> u32
     word % 2048
 }
 
-// Of a word of kind 4. Over 16,384 nothing is left for absent.
-pub fn absent(word: u32) -> f32
-    ensures { λ r. ⌜ r ≡ evidenceOf word .absent ⌝ }
+// Whether the word of kind 7, 0 where there is none, says a base rate of 0.
+pub fn is_zero_base(word: u32) -> bool
+    ensures { λ r. ⌜ r ≡ saysZero (rateOf word) ⌝ }
+{
+    if word == 0 {
+        return false;
+    }
+    lower_ten(word) == 0
+}
+
+// Of a word of kind 4, as it stands. Over 16,384 nothing is left for absent.
+fn bare_absent(word: u32) -> f32
+    ensures { λ r. ⌜ r ≡ evidenceOf none word .absent ⌝ }
 {
     let e = word % 32768;
     if 16384 < e {
@@ -73,8 +86,27 @@ pub fn absent(word: u32) -> f32
     over_16384(16384 - e)
 }
 
-pub fn present(word: u32) -> f32
-    ensures { λ r. ⌜ r ≡ evidenceOf word .present ⌝ }
+fn bare_present(word: u32) -> f32
+    ensures { λ r. ⌜ r ≡ evidenceOf none word .present ⌝ }
 {
     over_16384(word % 32768)
+}
+
+// The same with the base rate of a word of kind 7 taken out, if there is one.
+pub(crate) fn absent(word: u32, base: u32) -> f32
+    ensures { λ r. ⌜ r ≡ evidenceOf (rateOf base) word .absent ⌝ }
+{
+    if base == 0 {
+        return bare_absent(word);
+    }
+    bare_absent(word) * over_1024(lower_ten(base))
+}
+
+pub(crate) fn present(word: u32, base: u32) -> f32
+    ensures { λ r. ⌜ r ≡ evidenceOf (rateOf base) word .present ⌝ }
+{
+    if base == 0 {
+        return bare_present(word);
+    }
+    bare_present(word) * over_1024(1024 - lower_ten(base))
 }

@@ -18,5 +18,6 @@ pub use fields::alpha;
 pub use fields::beta;
 pub use fields::grade_count;
 pub use fields::is_regularised;
+pub use fields::is_zero_base;
 pub use fields::over_1024;
 pub use reading::Reading;

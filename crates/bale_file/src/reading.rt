@@ -20,6 +20,8 @@ pub struct Reading {
     pub rates: u32,
     pub prior: u32,
     pub grades: u32,
+    // The word of kind 7, 0 where there is none.
+    pub base: u32,
     // How many words of kinds 4 and 5 there are.
     pub markers: u32,
     pub pairs: u32,
@@ -71,6 +73,10 @@ fn keep_word(
     }
     if kind == 3 {
         next.grades = word;
+        return next;
+    }
+    if kind == 7 {
+        next.base = word;
         return next;
     }
     if kind == 4 {

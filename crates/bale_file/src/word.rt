@@ -20,19 +20,15 @@ pub fn kind_of(word: u32) -> u32
 pub fn may_follow(before: u32, kind: u32) -> bool
     ensures { λ r. ⌜ r ≡ mayFollow before kind ⌝ }
 {
-    if before < 3 {
-        return kind == before + 1;
+    match before {
+        0 => kind == 1,
+        1 => kind == 2,
+        2 => kind == 3 || kind == 7,
+        3 | 4 => 4 <= kind && kind <= 6,
+        5 => 5 <= kind && kind <= 6,
+        7 => kind == 3,
+        _ => false,
     }
-    if 5 < before {
-        return false;
-    }
-    if kind < 4 {
-        return false;
-    }
-    if kind < before {
-        return false;
-    }
-    kind <= 6
 }
 
 // One more than the largest number that the fields of a kind hold.
@@ -53,6 +49,9 @@ fn field_limit(kind: u32) -> u32
     }
     if kind == 5 {
         return 1048576;
+    }
+    if kind == 7 {
+        return 1024;
     }
     1
 }

@@ -9,8 +9,9 @@ pub mod ExactSums
 -- The first check that fails, of which a table of refusals speaks; document 01's table.
 pub mod First
 pub mod Refused
--- The program's, with number 9.
+-- The program's, with numbers 9 and 11; the reader's base rate taken out.
 pub mod FileRefused
+pub mod BaseRate
 -- A shift's input cut into bales.
 pub mod ShiftCut
 -- Two readers over one belt.

@@ -1,8 +1,8 @@
--- Document 01's 'Bales to prove', a shift, patterns of reads and made-up bales, as one table, proved together by computing the definitions.
-use Prim.Native.Nat.{ℕ, _/_, _%_}
+-- Document 01's 'Bales to prove', a shift, base rates, patterns of reads and made-up bales, as one table, proved together by computing the definitions.
+use Prim.Native.Nat.{ℕ, _+_, _/_, _%_}
 use mathlib.Core.Path.{_≡_, refl}
 use mathlib.Core.Bool.{Bool, true, false}
-use mathlib.Core.Option.{some}
+use mathlib.Core.Option.{none, some}
 use mathlib.Core.List.{List, [], _∷_, _++_, map}
 use lib.IntN.{pos, negsuc}
 use lib.ListN.{length, getD, replicate}
@@ -21,8 +21,8 @@ use Rattle.definition.specs.Priorities.{exceeds, higher, highestFrom, hi
 use Rattle.definition.specs.Run.{initialPriority, beginLoop, updateSingle, neighbourNumbers, updateTree, updateMessage, otherOutgoing, addPending, pushPriorities, scheduledStep, applyEvent, stateAfter, openingAndSweeps, events, loop, run}
 use Rattle.definition.specs.Answer.{logMarginal, marginal, beliefsAmong, partAnswer, answersOf, answersFrom, answer, endingNumber, endingResidual, answeredBeliefs, beliefNumbers, beliefFloats, endingNumbers, endingFloats}
 use Rattle.definition.specs.Refusals.{markersOf, pairsOf, baleOf, outside, tooMany, workNeeded, tooSmall, badTolerance, badEvidence, unknownPair, lowestPlaceFrom, lowestPlace, repeatedPairs, tooManyGrades, orRefused, verdict, Buffers, accepted, refused}
-use Rattle.definition.specs.BaleFile.{words, wordKind, bits, fieldWidth, cleanWord, mayFollow, badWordFrom, badWord, wordsOfKind, firstOfKind, settingsOfWords, evidenceOf, pairOf, baleOfWords}
-use Rattle.definition.specs.FileAnswer.{fileVerdict}
+use Rattle.definition.specs.BaleFile.{words, wordKind, bits, fieldWidth, cleanWord, mayFollow, badWordFrom, badWord, wordsOfKind, firstOfKind, settingsOfWords, baseRate, evidenceOf, pairOf, baleOfWords}
+use Rattle.definition.specs.FileAnswer.{zeroBase, fileVerdict}
 use Rattle.definition.specs.Listing.{decimalBefore, decimal, hexDigit, hexBefore, hex, line, partFields, beliefLine, beliefLines, partLines, baleLine, refusal, verdictLines, listing}
 use Rattle.definition.specs.Shift.{onFirst, bales, shiftListing}
 use Rattle.definition.specs.Lists.{range, concat, patterns}
@@ -47,6 +47,14 @@ early = littleEndian (0xC0000000 ∷ [])
 
 abbrev stray : List ℕ
 stray = littleEndian (0x80002000 ∷ 0xC0000001 ∷ []) ++ 0 ∷ 0 ∷ 0 ∷ []
+
+-- the sample with these words behind its prior, and this e
+abbrev withWords : List ℕ → ℕ → List ℕ
+withWords ws e = littleEndian (0x20080200 ∷ 0x40000200 ∷ (ws ++ 0x60000001 ∷ (0x80000000 + e) ∷ 0xA0000000 ∷ 0xC0000000 ∷ []))
+
+-- a base rate of b 1,024ths
+abbrev base : ℕ → ℕ
+base b = 0xE0000000 + b
 
 -- alpha is a/d, and beta and the prior are 1/2
 abbrev settings : ℕ → ℕ → Bool → Settings
@@ -106,6 +114,24 @@ pub record Bales : Type 0 where
   pub shift-cut : map length (bales (early ++ sample ++ stray)) ≡ 4 ∷ 24 ∷ 8 ∷ 3 ∷ []
   pub shift-listed : shiftListing (early ++ sample ++ stray)
       ≡ ascii "refused 9 at 0\nbale 1 1 1\npart 0 empty 0\n0 3F000000 3F000000\nrefused 9 at 0\nrefused 9 at 0\n"
+  -- a base rate of 300/1024 taken out of 3/4; one of 0, and one where the program's number 1 would fall, and one ahead of a bad word
+  pub base-listed : listing (withWords (base 300 ∷ []) 12288)
+      ≡ ascii "bale 1 1 1\npart 0 empty 0\n0 3ED73FBF 3F146020\n"
+  pub base-zero : fileVerdict (withWords (base 0 ∷ []) 8192) ≡ refused 11 2
+  pub base-zero-first : fileVerdict (littleEndian (0x20000000 ∷ 0x40000200 ∷ base 0 ∷ 0x60000019 ∷ 0xC0000000 ∷ [])) ≡ refused 11 2
+  pub base-zero-in-bad : fileVerdict (littleEndian (0x20080200 ∷ 0x40000200 ∷ base 0 ∷ 0x60000001 ∷ 0x80008000 ∷ 0xC0000000 ∷ [])) ≡ refused 9 4
+  -- the ends of number 5 for a base rate of 1/1024
+  pub least-absent : fileVerdict (withWords (base 1 ∷ []) 15360) ≡ accepted
+  pub less-absent : fileVerdict (withWords (base 1 ∷ []) 15361) ≡ refused 5 0
+  pub least-present : fileVerdict (withWords (base 1 ∷ []) 2) ≡ accepted
+  pub less-present : fileVerdict (withWords (base 1 ∷ []) 1) ≡ refused 5 0
+  pub read-over : fileVerdict (withWords (base 1 ∷ []) 16385) ≡ refused 5 0
+  -- one word of kind 7 behind the prior and none elsewhere, with no bit set above bit 9
+  pub base-good : badWord (withWords (base 1023 ∷ []) 1024) ≡ none
+  pub base-twice : badWord (withWords (base 1 ∷ base 1 ∷ []) 8192) ≡ some 3
+  pub base-stray : badWord (withWords (base 1024 ∷ []) 8192) ≡ some 2
+  pub base-before-prior : badWord (littleEndian (0x20080200 ∷ base 1 ∷ 0x40000200 ∷ 0x60000001 ∷ 0xC0000000 ∷ [])) ≡ some 1
+  pub base-behind-grades : badWord (littleEndian (0x20080200 ∷ 0x40000200 ∷ 0x60000001 ∷ base 1 ∷ 0xC0000000 ∷ [])) ≡ some 3
   -- the empty graph has no part; one grade alone is a part, and has no belief
   pub empty-graph : sizes (unmarked 0) ≡ []
   pub empty-answer : answer (settings 1 2 false) (unmarked 0) ≡ []
@@ -166,13 +192,27 @@ pub record Bales : Type 0 where
   pub no-setting : trialVerdict (reporting 0) (trying [] 0 1 (unmarked 1)) ≡ accepted
 
 pub bales-computed : Bales
-unfolding round add sub mul div neg lt le eq isNan ofInt toUnsigned toBits size ofBits maxᶠ abs avoidUnderflow clamp logTableNumber logTableEntry lnOfBits ln expSeries expReduced exp powiFrom powi sumOf productFrom productOf normalize avoidUnderflowAll logNormalize sumLogBlocks sumLogsBatched cpdAbsent cpdAbsentRegularised cpdRows cpdTable convolve countLayer messageUp likelihoodsBelow treeLayers logLength firstLayer treeMessages builtGraph walk components componentsOf subgraph subgraphOf edgeAt directionTo directionsTo firstsIncoming directionFrom messageNodesFrom messageGraph messageGraphOf setMessages copyNode copyNodes initialBelief outMessageLog outMessageVariable outMessageFactor outMessageFactorTo outMessageBy outMessage absLogRatio pairResidual vectorResidual residual equalMessages messageChange changeExceeds needsRebuild treeOutMessages outMessagesTree outMessages initialMessage updateKind openingInput openingFactor logTotal leaveOneOut openingVariable openingGrade initializeMessages opening computeUpdate sweep initialPriority beginLoop exceeds higher highestFrom highestPriority updateSingle neighbourNumbers updateTree updateMessage otherOutgoing addPending pushPriorities scheduledStep applyEvent stateAfter openingAndSweeps events loop run logMarginal marginal beliefsAmong partAnswer answersOf answersFrom answer endingNumber endingResidual answeredBeliefs beliefNumbers beliefFloats endingNumbers endingFloats markersOf pairsOf baleOf outside tooMany workNeeded tooSmall badTolerance badEvidence unknownPair lowestPlaceFrom lowestPlace repeatedPairs tooManyGrades orRefused verdict words wordKind bits fieldWidth cleanWord mayFollow badWordFrom badWord wordsOfKind firstOfKind settingsOfWords evidenceOf pairOf baleOfWords decimalBefore decimal hexDigit hexBefore hex line partFields beliefLine beliefLines partLines baleLine refusal verdictLines fileVerdict listing onFirst bales shiftListing ascii patterns withReads presentOf aboveHalf patternCount patternCounts ampleFor sizesVerdict allWeak patternVerdict nextNumber draw drawEach drawReads markerLimits readLimits gradeLimits madeUp history settingsWith settingsUnder judgements allJudgements settingCounts trialCounts outsideRange settingTests trialVerdict trialSettingsOf
+unfolding round add sub mul div neg lt le eq isNan ofInt toUnsigned toBits size ofBits maxᶠ abs avoidUnderflow clamp logTableNumber logTableEntry lnOfBits ln expSeries expReduced exp powiFrom powi sumOf productFrom productOf normalize avoidUnderflowAll logNormalize sumLogBlocks sumLogsBatched cpdAbsent cpdAbsentRegularised cpdRows cpdTable convolve countLayer messageUp likelihoodsBelow treeLayers logLength firstLayer treeMessages builtGraph walk components componentsOf subgraph subgraphOf edgeAt directionTo directionsTo firstsIncoming directionFrom messageNodesFrom messageGraph messageGraphOf setMessages copyNode copyNodes initialBelief outMessageLog outMessageVariable outMessageFactor outMessageFactorTo outMessageBy outMessage absLogRatio pairResidual vectorResidual residual equalMessages messageChange changeExceeds needsRebuild treeOutMessages outMessagesTree outMessages initialMessage updateKind openingInput openingFactor logTotal leaveOneOut openingVariable openingGrade initializeMessages opening computeUpdate sweep initialPriority beginLoop exceeds higher highestFrom highestPriority updateSingle neighbourNumbers updateTree updateMessage otherOutgoing addPending pushPriorities scheduledStep applyEvent stateAfter openingAndSweeps events loop run logMarginal marginal beliefsAmong partAnswer answersOf answersFrom answer endingNumber endingResidual answeredBeliefs beliefNumbers beliefFloats endingNumbers endingFloats markersOf pairsOf baleOf outside tooMany workNeeded tooSmall badTolerance badEvidence unknownPair lowestPlaceFrom lowestPlace repeatedPairs tooManyGrades orRefused verdict words wordKind bits fieldWidth cleanWord mayFollow badWordFrom badWord wordsOfKind firstOfKind settingsOfWords baseRate evidenceOf pairOf baleOfWords decimalBefore decimal hexDigit hexBefore hex line partFields beliefLine beliefLines partLines baleLine refusal verdictLines zeroBase fileVerdict listing onFirst bales shiftListing ascii patterns withReads presentOf aboveHalf patternCount patternCounts ampleFor sizesVerdict allWeak patternVerdict nextNumber draw drawEach drawReads markerLimits readLimits gradeLimits madeUp history settingsWith settingsUnder judgements allJudgements settingCounts trialCounts outsideRange settingTests trialVerdict trialSettingsOf
 bales-computed =
     record {
       listed = refl;
       shift-of-none = refl;
       shift-cut = refl;
       shift-listed = refl;
+      base-listed = refl;
+      base-zero = refl;
+      base-zero-first = refl;
+      base-zero-in-bad = refl;
+      least-absent = refl;
+      less-absent = refl;
+      least-present = refl;
+      less-present = refl;
+      read-over = refl;
+      base-good = refl;
+      base-twice = refl;
+      base-stray = refl;
+      base-before-prior = refl;
+      base-behind-grades = refl;
       empty-graph = refl;
       empty-answer = refl;
       grade-alone = refl;

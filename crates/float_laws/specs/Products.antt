@@ -4,14 +4,15 @@ use mathlib.Core.Path.{_≡_, refl, sym, ap, _∙_, subst}
 use mathlib.Core.Bool.{Bool, true, false, not}
 use mathlib.Core.List.{List, [], _∷_}
 use Prim.Native.Nat.{ℕ, zero, suc, _+_, _*_, _/_, _^_, _≤_, _<_}
-use native.Mathlib.Nat.{le-trans, le-of-eq, le-of-lt, add-zero, zero-add, add-assoc, suc-add, add-suc, mul-assoc, mul-mul-mul-comm, one-mul, zero-mul, mul-le-mul-left, mul-le-mul-right, le-of-mul-le-mul-right, mul-pos, suc-inj, suc-ne-zero, zero-div}
+use native.Mathlib.Nat.{le-trans, le-of-eq, le-of-lt, add-zero, zero-add, add-assoc, suc-add, add-suc, mul-assoc, one-mul, zero-mul, mul-le-mul-left, mul-le-mul-right, le-of-mul-le-mul-right, mul-pos, suc-inj, suc-ne-zero, zero-div}
 use native.Mathlib.Omega.{arith}
 use lib.Dec.{T, lt→ltb, leb, leb→le, nleb→lt, lit≤}
 use lib.ListN.{length, getD, take, drop}
 use lib.Pow.{pow-pos}
 use lib.Ieee.{Float, nan, inf, fin, binary32, up, down, round, mul, le, fits}
 use lib.Ieee.Fits.{mul-fits}
-use lib.Ieee.Scale.{grid, finite, round-same}
+use lib.Ieee.Exact.{HasValue}
+use lib.Ieee.Scale.{grid, finite}
 use lib.Ieee.Positive.{num, den, den-pos, positive}
 use Rattle.definition.specs.Floats.{_⊗_}
 use Rattle.definition.specs.Vectors.{zipWith}
@@ -19,28 +20,21 @@ use Rattle.float_laws.specs.Order.{Le, le→Le, le-trans-at}
 use Rattle.float_laws.specs.Rounded.{clear, round-clear}
 use Rattle.float_laws.specs.Laws.{mul-at-most-left}
 use Rattle.float_laws.specs.Sums.{ofNat, one-is}
+use Rattle.float_laws.specs.Whole.{values-times}
 use Rattle.float_laws.specs.Error.{val32, units-exact, rounded-units, grid-near, strip, exactSum}
 use Rattle.float_laws.specs.Totals.{AtMost, AllAtMost, clear-low, atMost-finite}
 
 -- ---- a product in units
-mul-clear : (x y : Float) → T (clear x) → T (clear y) → T (finite x) → T (finite y) → mul binary32 x y ≡ round binary32 false (num x * num y) (den x * den y)
-unfolding mul
-mul-clear nan y s t p q = absurd p
-mul-clear (inf u) y s t p q = absurd p
-mul-clear (fin true m e) y s t p q = absurd s
-mul-clear (fin false m e) nan s t p q = absurd q
-mul-clear (fin false m e) (inf u) s t p q = absurd q
-mul-clear (fin false m e) (fin true n d) s t p q = absurd t
-mul-clear (fin false m e) (fin false n d) s t p q = refl
+clear-value : (x : Float) (a c : ℕ) → T (clear x) → T (finite x) → num x * c ≡ a * den x → HasValue x false a c
+clear-value nan a c s p e = absurd p
+clear-value (inf u) a c s p e = absurd p
+clear-value (fin true m k) a c s p e = absurd s
+clear-value (fin false m k) a c s p e = (refl, e)
 
 pub mul-units : (x y : Float) → T (fits binary32 x) → T (fits binary32 y) → T (clear x) → T (clear y) → T (finite x) → T (finite y) → mul binary32 x y ≡ round binary32 false (val32 x * val32 y) (2 ^ 149 * 2 ^ 149)
 mul-units x y t u s r p q =
-    mul-clear x y s r p q
-    ∙ round-same binary32 false (num x * num y) (den x * den y) (val32 x * val32 y) (2 ^ 149 * 2 ^ 149) (mul-pos (den-pos x) (den-pos y)) (mul-pos (pow-pos 149) (pow-pos 149))
-    (both (num x) (num y) (den x) (den y) (val32 x) (val32 y) (2 ^ 149) (units-exact x t p) (units-exact y u q))
-  where
-    both : (a b c d X Y U : ℕ) → a * U ≡ X * c → b * U ≡ Y * d → a * b * (U * U) ≡ X * Y * (c * d)
-    both a b c d X Y U e f = mul-mul-mul-comm a b U U ∙ ap (λ (z : ℕ). z * (b * U)) e ∙ ap (λ (z : ℕ). X * c * z) f ∙ mul-mul-mul-comm X c Y d
+    values-times x y (val32 x) (2 ^ 149) (val32 y) (2 ^ 149) (pow-pos 149) (pow-pos 149) (clear-value x (val32 x) (2 ^ 149) s p (units-exact x t p))
+    (clear-value y (val32 y) (2 ^ 149) r q (units-exact y u q))
 
 pub clear-mul : (x y : Float) → T (fits binary32 x) → T (fits binary32 y) → T (clear x) → T (clear y) → T (finite x) → T (finite y) → T (clear (mul binary32 x y))
 clear-mul x y t u s r p q = subst (λ (z : Float). T (clear z)) (sym (mul-units x y t u s r p q)) (round-clear binary32 (val32 x * val32 y) (2 ^ 149 * 2 ^ 149))

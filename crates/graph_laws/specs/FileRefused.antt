@@ -2,7 +2,7 @@
 use Prim.Native.Nat.{ℕ, zero, suc, _%_, _<_}
 use native.Mathlib.Omega.{arith}
 use mathlib.Core.Path.{_≡_, refl, sym, ap, _∙_, subst}
-use mathlib.Core.Logic.{_⊎_, inl, inr}
+use mathlib.Core.Logic.{_↔_, _⊎_, inl, inr}
 use mathlib.Core.Bool.{Bool, true, false, cond, not, _||_, _&&_, true≢false, false≢true, or-true}
 use mathlib.Core.Option.{Option, none, some}
 use mathlib.Core.List.{List, [], _∷_, map}
@@ -11,12 +11,12 @@ use lib.Dec.{eqb, ltb}
 use lib.ListN.{length, getD, getElem?, drop}
 use Rattle.definition.specs.Lists.{range}
 use Rattle.definition.specs.Refusals.{tooMany, lowestPlaceFrom, lowestPlace, Verdict, orRefused}
-use Rattle.definition.specs.BaleFile.{words, wordKind, cleanWord, mayFollow, badWordFrom, badWord, settingsOfWords}
-use Rattle.definition.specs.FileAnswer.{buffers, fileVerdict}
+use Rattle.definition.specs.BaleFile.{words, wordKind, bits, cleanWord, mayFollow, badWordFrom, badWord, settingsOfWords}
+use Rattle.definition.specs.FileAnswer.{buffers, zeroBase, fileVerdict}
 use Rattle.definition.specs.Listing.{verdictLines, listing}
-use Rattle.claims.specs.FileRefused.{BadAt, disorder, strayBit, missingEnd, bytesLeft, FirstBad, FileJudged, baleIn, FileFails, badFile, manyGrades, manyMarkers, manyPairs, asCalled, FileListed}
-use Rattle.graph_laws.specs.Bools.{not-true, or-cases, or-right, eqb-sound}
-use Rattle.graph_laws.specs.FirstChecks.{Check, test, numberAt, firstOf, nothing, FirstTest, Found, found, accepted-exactly, refused-exactly}
+use Rattle.claims.specs.FileRefused.{BadAt, disorder, strayBit, missingEnd, bytesLeft, FirstBad, FileJudged, baleIn, FileFails, badFile, zeroRate, manyGrades, manyMarkers, manyPairs, asCalled, FileListed}
+use Rattle.graph_laws.specs.Bools.{not-true, or-cases, or-right, and-left, and-right, eqb-sound}
+use Rattle.graph_laws.specs.FirstChecks.{Check, test, numberAt, firstOf, nothing, FirstTest, Found, found, map-test, test-map, accepted-exactly, refused-exactly}
 use Rattle.graph_laws.specs.Refused.{checks, verdict-first, row, listed}
 
 -- ---- the words as a list of tests, and a last one for the end
@@ -96,6 +96,14 @@ overLibrary bs = tooMany 1024 1024 8192 (baleIn bs)
 -- the library's checks of what the file says
 abbrev callChecks : List ℕ → List Check
 callChecks bs = checks (settingsOfWords (words bs)) buffers (baleIn bs)
+
+-- the test of number 11
+pub zero-base : (w : ℕ) → zeroBase w ≡ true ↔ ((wordKind w ≡ 7) × (bits 10 0 w ≡ 0))
+unfolding zeroBase
+zero-base w =
+    let k = eqb (wordKind w) 7 in
+    let z = eqb (bits 10 0 w) 0 in
+    (λ h. (eqb-sound (wordKind w) 7 (and-left k z h), eqb-sound (bits 10 0 w) 0 (and-right k z h)), λ h i. eqb (h .0 i) 7 && eqb (h .1 i) 0)
 
 module _ (bs : List ℕ) where
   abbrev before : ℕ → ℕ
@@ -177,7 +185,7 @@ module _ (bs : List ℕ) where
 
   -- number 1 is one check, of what the program takes and of what the library does
   abbrev fileChecks : List Check
-  fileChecks = (9, fileTests bs) ∷ (1, (overProgram bs || overLibrary bs) ∷ []) ∷ drop 1 (callChecks bs)
+  fileChecks = (9, fileTests bs) ∷ (11, map zeroBase (words bs)) ∷ (1, (overProgram bs || overLibrary bs) ∷ []) ∷ drop 1 (callChecks bs)
 
   one-check :
       (a c : Bool) (v : Verdict) →
@@ -187,11 +195,15 @@ module _ (bs : List ℕ) where
   one-check false true v = refl
   one-check false false v = refl
 
+  -- number 11, and then what v says
+  abbrev zeros : Verdict → Verdict
+  zeros v = orRefused 11 (lowestPlace (map zeroBase (words bs))) v
+
   file-first : fileVerdict bs ≡ firstOf fileChecks
   unfolding fileVerdict
   file-first =
-      (λ i. orRefused 9 (bad-lowest i) (orRefused 1 (lowestPlace (overProgram bs ∷ [])) (verdict-first (settingsOfWords (words bs)) buffers (baleIn bs) i)))
-      ∙ ap (orRefused 9 (lowestPlace (fileTests bs))) (one-check (overProgram bs) (overLibrary bs) (firstOf (drop 1 (callChecks bs))))
+      (λ i. orRefused 9 (bad-lowest i) (zeros (orRefused 1 (lowestPlace (overProgram bs ∷ [])) (verdict-first (settingsOfWords (words bs)) buffers (baleIn bs) i))))
+      ∙ ap (λ (v : Verdict). orRefused 9 (lowestPlace (fileTests bs)) (zeros v)) (one-check (overProgram bs) (overLibrary bs) (firstOf (drop 1 (callChecks bs))))
 
   program-many : overProgram bs ≡ true → FileFails bs 1 0
   unfolding tooMany
@@ -207,27 +219,29 @@ module _ (bs : List ℕ) where
 
   file-row : (k p : ℕ) → test fileChecks k p ≡ true → FileFails bs (numberAt fileChecks k) p
   file-row zero p h = badFile (bad-row p h)
-  file-row (suc zero) (suc p) h = absurd (false≢true h)
-  file-row (suc zero) zero h = go (or-cases (overProgram bs) (overLibrary bs) h)
+  file-row (suc zero) p h = let (w, e, t) = map-test zeroBase (words bs) p h in let z = zero-base w .0 t in zeroRate e (z .0) (z .1)
+  file-row (suc (suc zero)) (suc p) h = absurd (false≢true h)
+  file-row (suc (suc zero)) zero h = go (or-cases (overProgram bs) (overLibrary bs) h)
     where
       go : (overProgram bs ≡ true) ⊎ (overLibrary bs ≡ true) → FileFails bs 1 0
       go (inl a) = program-many a
       go (inr a) = asCalled (row (settingsOfWords (words bs)) buffers (baleIn bs) 0 0 a)
-  file-row (suc (suc k)) p h = asCalled (row (settingsOfWords (words bs)) buffers (baleIn bs) (suc k) p h)
+  file-row (suc (suc (suc k))) p h = asCalled (row (settingsOfWords (words bs)) buffers (baleIn bs) (suc k) p h)
 
   file-listed : (n p : ℕ) → FileFails bs n p → (k : ℕ) × (n ≡ numberAt fileChecks k) × (test fileChecks k p ≡ true)
   unfolding tooMany
   file-listed n p (badFile x) = (0, refl, bad-listed x)
-  file-listed n p (manyGrades l) = (1, refl, simp (lt-ltb _ _ l))
-  file-listed n p (manyMarkers l) = (1, refl, simp (lt-ltb _ _ l, or-true))
-  file-listed n p (manyPairs l) = (1, refl, simp (lt-ltb _ _ l, or-true))
+  file-listed n p (zeroRate {w = w} e k z) = (1, refl, test-map zeroBase (words bs) p w e (zero-base w .1 (k, z)))
+  file-listed n p (manyGrades l) = (2, refl, simp (lt-ltb _ _ l))
+  file-listed n p (manyMarkers l) = (2, refl, simp (lt-ltb _ _ l, or-true))
+  file-listed n p (manyPairs l) = (2, refl, simp (lt-ltb _ _ l, or-true))
   file-listed n p (asCalled x) = let r = listed (settingsOfWords (words bs)) buffers (baleIn bs) x in go (r .0) p (r .1) (r .2)
     where
       go : (k q : ℕ) → n ≡ numberAt (callChecks bs) k → test (callChecks bs) k q ≡ true
           → (k : ℕ) × (n ≡ numberAt fileChecks k) × (test fileChecks k q ≡ true)
-      go zero zero e t = (1, e, or-right (overProgram bs) (overLibrary bs) t)
+      go zero zero e t = (2, e, or-right (overProgram bs) (overLibrary bs) t)
       go zero (suc q) e t = absurd (false≢true t)
-      go (suc k) q e t = (suc (suc k), e, t)
+      go (suc k) q e t = (suc (suc (suc k)), e, t)
 
   said : {v : Verdict} → fileVerdict bs ≡ v → listing bs ≡ verdictLines v (settingsOfWords (words bs)) (baleIn bs)
   said e = listing-verdict ∙ ap (λ (v : Verdict). verdictLines v (settingsOfWords (words bs)) (baleIn bs)) e
@@ -235,6 +249,6 @@ module _ (bs : List ℕ) where
   pub file-listing : FileListed bs
   unfolding verdictLines
   file-listing =
-      let r = refused-exactly (9 ∷ range 1 8) (FileFails bs) fileChecks (fileVerdict bs) file-first refl file-row file-listed in
-      let a = accepted-exactly (9 ∷ range 1 8) (FileFails bs) fileChecks (fileVerdict bs) file-first refl file-row file-listed in
+      let r = refused-exactly (9 ∷ 11 ∷ range 1 8) (FileFails bs) fileChecks (fileVerdict bs) file-first refl file-row file-listed in
+      let a = accepted-exactly (9 ∷ 11 ∷ range 1 8) (FileFails bs) fileChecks (fileVerdict bs) file-first refl file-row file-listed in
       record { refused-at = r; accepted-as = a; refuses = λ n p h. said (r n p .1 h); answers = λ h. said (a .1 h) }

@@ -1,5 +1,7 @@
--- A file in which nothing is bad is one in document 01's order: one each of 1, 2, 3, then all 4s, all 5s, one 6 and nothing after.
+-- A file in which nothing is bad is one in document 01's order: one each of 1, 2, 3, then all 4s, all 5s, one 6 and nothing after; with document 02's 7
+-- between 2 and 3, or without it.
 use Prim.Native.Nat.{ℕ, zero, suc, _%_, _≤_}
+use native.Mathlib.Nat.{eq-or-lt-of-le}
 use native.Mathlib.Omega.{arith}
 use mathlib.Core.Path.{_≡_, refl, sym, ap, _∙_, subst}
 use mathlib.Core.Logic.{_⊎_, inl, inr}
@@ -9,9 +11,10 @@ use mathlib.Core.List.{List, [], _∷_, _++_, map}
 use borrow.Author.Tests.{leb-true}
 use lib.Dec.{eqb, leb}
 use lib.ListN.{length, getD, getElem?, replicate}
+use Rattle.definition.specs.Lists.{consIf}
 use Rattle.definition.specs.BaleFile.{words, wordKind, cleanWord, mayFollow}
 use Rattle.claims.specs.FileRefused.{kindBefore, BadAt, disorder, strayBit, missingEnd, bytesLeft, GoodFile, NoneBad}
-use Rattle.graph_laws.specs.Bools.{and-left, and-right, eqb-sound, eqb-same}
+use Rattle.graph_laws.specs.Bools.{or-cases, and-left, and-right, eqb-sound, eqb-same}
 use Rattle.graph_laws.specs.FirstChecks.{nothing}
 use Rattle.graph_laws.specs.FileRefused.{file-judged}
 
@@ -46,14 +49,8 @@ abbrev markersOn : ℕ → ℕ → List ℕ
 markersOn m n = replicate m 4 ++ pairsOn n
 
 four-to-six : (k : ℕ) → 4 ≤ k → k ≤ 6 → (k ≡ 4) ⊎ ((k ≡ 5) ⊎ (k ≡ 6))
-four-to-six zero a b = absurd (let z : ⊥ = omega arith in z)
-four-to-six (suc zero) a b = absurd (let z : ⊥ = omega arith in z)
-four-to-six (suc (suc zero)) a b = absurd (let z : ⊥ = omega arith in z)
-four-to-six (suc (suc (suc zero))) a b = absurd (let z : ⊥ = omega arith in z)
-four-to-six (suc (suc (suc (suc zero)))) a b = inl refl
-four-to-six (suc (suc (suc (suc (suc zero))))) a b = inr (inl refl)
-four-to-six (suc (suc (suc (suc (suc (suc zero)))))) a b = inr (inr refl)
-four-to-six (suc (suc (suc (suc (suc (suc (suc k))))))) a b = absurd (let z : ⊥ = omega arith in z)
+four-to-six k a b =
+    elim (eq-or-lt-of-le a) [ inl e ↦ inl (sym e) | inr l ↦ inr (elim (eq-or-lt-of-le l) [ inl e ↦ inl (sym e) | inr m ↦ inr (omega arith) ]) ]
 
 -- nothing follows 6
 none-after : (k : ℕ) → mayFollow 6 k ≡ true → ⊥
@@ -88,27 +85,37 @@ after-three k (j ∷ ks) h o =
     go (inr (inr e)) r = absurd (none-after j (subst (λ (i : ℕ). mayFollow i j ≡ true) e (o .0)))
 
 abbrev InOrder : List ℕ → Type 0
-InOrder ks = (m : ℕ) × (n : ℕ) × (ks ≡ 1 ∷ 2 ∷ 3 ∷ markersOn m n)
+InOrder ks = (d : Bool) × (m : ℕ) × (n : ℕ) × (ks ≡ 1 ∷ 2 ∷ consIf d 7 (3 ∷ markersOn m n))
+
+-- what is shown of the kinds n ∷ r holds where the first is n; and so after a kind j, not the last, that only n may follow
+at-kind : (P : List ℕ → Type 0) (n : ℕ) → ((r : List ℕ) → Ordered n r → P (n ∷ r)) → (k : ℕ) (ks : List ℕ) → k ≡ n → Ordered k ks → P (k ∷ ks)
+at-kind P n f k ks e = subst (λ (i : ℕ). Ordered i ks → P (i ∷ ks)) (sym e) (f ks)
+
+only : (P : List ℕ → Type 0) (j n : ℕ) → eqb j 6 ≡ false → ((k : ℕ) → mayFollow j k ≡ true → k ≡ n)
+    → ((r : List ℕ) → Ordered n r → P (n ∷ r)) → (ks : List ℕ) → Ordered j ks → P ks
+only P j n s h f [] o = absurd (true≢false (sym (ap (λ (i : ℕ). eqb i 6) o) ∙ s))
+only P j n s h f (k ∷ ks) o = at-kind P n f k ks (h k (o .0)) (o .1)
+
+from-three : (d : Bool) (ks : List ℕ) → Ordered 3 ks → InOrder (1 ∷ 2 ∷ consIf d 7 (3 ∷ ks))
+unfolding mayFollow
+from-three d [] o = absurd (let z : ⊥ = omega arith in z)
+from-three d (k ∷ ks) o =
+    let x = after-three k ks (o .0) (o .1) in
+    (d, x .0, x .1, ap (λ (r : List ℕ). 1 ∷ 2 ∷ consIf d 7 (3 ∷ r)) (x .2))
+
+from-two : (ks : List ℕ) → Ordered 2 ks → InOrder (1 ∷ 2 ∷ ks)
+unfolding mayFollow
+from-two [] o = absurd (let z : ⊥ = omega arith in z)
+from-two (k ∷ ks) o = go (or-cases (eqb k 3) (eqb k 7) (o .0))
+  where
+    go : (eqb k 3 ≡ true) ⊎ (eqb k 7 ≡ true) → InOrder (1 ∷ 2 ∷ k ∷ ks)
+    go (inl a) = at-kind (λ r. InOrder (1 ∷ 2 ∷ r)) 3 (from-three false) k ks (eqb-sound k 3 a) (o .1)
+    go (inr a) =
+        at-kind (λ r. InOrder (1 ∷ 2 ∷ r)) 7 (only (λ r. InOrder (1 ∷ 2 ∷ 7 ∷ r)) 7 3 refl (λ i. eqb-sound i 3) (from-three true)) k ks (eqb-sound k 7 a) (o .1)
 
 in-order : (ks : List ℕ) → Ordered 0 ks → InOrder ks
 unfolding mayFollow
-in-order [] o = absurd (let z : ⊥ = omega arith in z)
-in-order (a ∷ []) o = let e = eqb-sound a 1 (o .0) in absurd (let z : ⊥ = omega (arith, o .1) in z)
-in-order (a ∷ b ∷ []) o =
-    let e = eqb-sound a 1 (o .0) in
-    let f = eqb-sound b 2 (subst (λ (i : ℕ). mayFollow i b ≡ true) e (o .1 .0)) in
-    absurd (let z : ⊥ = omega (arith, o .1 .1) in z)
-in-order (a ∷ b ∷ d ∷ []) o =
-    let e = eqb-sound a 1 (o .0) in
-    let f = eqb-sound b 2 (subst (λ (i : ℕ). mayFollow i b ≡ true) e (o .1 .0)) in
-    let g = eqb-sound d 3 (subst (λ (i : ℕ). mayFollow i d ≡ true) f (o .1 .1 .0)) in
-    absurd (let z : ⊥ = omega (arith, o .1 .1 .1) in z)
-in-order (a ∷ b ∷ d ∷ k ∷ ks) o =
-    let e = eqb-sound a 1 (o .0) in
-    let f = eqb-sound b 2 (subst (λ (i : ℕ). mayFollow i b ≡ true) e (o .1 .0)) in
-    let g = eqb-sound d 3 (subst (λ (i : ℕ). mayFollow i d ≡ true) f (o .1 .1 .0)) in
-    let x = after-three k ks (subst (λ (i : ℕ). mayFollow i k ≡ true) g (o .1 .1 .1 .0)) (o .1 .1 .1 .1) in
-    (x .0, x .1, λ i. e i ∷ f i ∷ g i ∷ x .2 i)
+in-order = only InOrder 0 1 refl (λ k. eqb-sound k 1) (only (λ r. InOrder (1 ∷ r)) 1 2 refl (λ k. eqb-sound k 2) from-two)
 
 -- and the other way
 pairs-ordered : (j : ℕ) → mayFollow j 5 ≡ true → mayFollow j 6 ≡ true → (n : ℕ) → Ordered j (pairsOn n)
@@ -123,7 +130,11 @@ markers-ordered j a b d (suc m) n = (a, markers-ordered 4 refl refl refl m n)
 
 ordered-in : (ks : List ℕ) → InOrder ks → Ordered 0 ks
 unfolding mayFollow
-ordered-in ks x = subst (Ordered 0) (sym (x .2)) (refl, (refl, (refl, markers-ordered 3 refl refl refl (x .0) (x .1))))
+ordered-in ks x = subst (Ordered 0) (sym (x .3)) (refl, (refl, go (x .0)))
+  where
+    go : (d : Bool) → Ordered 2 (consIf d 7 (3 ∷ markersOn (x .1) (x .2)))
+    go true = (refl, (refl, markers-ordered 3 refl refl refl (x .1) (x .2)))
+    go false = (refl, markers-ordered 3 refl refl refl (x .1) (x .2))
 
 -- ---- the file
 
@@ -142,16 +153,17 @@ module _ (bs : List ℕ) where
       let o = in-order (map wordKind (words bs)) (from-places 0 (words bs) (λ p w e. is-true _ (λ a. h p (disorder e a))) end) in
       record {
         whole = same (length bs % 4) 0 (λ a. h (length (words bs)) (bytesLeft a));
-        markers = o .0;
-        pairs = o .1;
-        kinds = o .2;
+        based = o .0;
+        markers = o .1;
+        pairs = o .2;
+        kinds = o .3;
         clean = λ p w e. is-true (cleanWord w) (λ a. h p (strayBit e a));
       }
 
   shape-good : GoodFile bs → {p : ℕ} → BadAt bs p → ⊥
-  shape-good g (disorder {p = p} {w = w} e a) = true≢false (sym (at-place 0 (words bs) (ordered-in _ (g .markers, g .pairs, g .kinds)) p w e) ∙ a)
+  shape-good g (disorder {p = p} {w = w} e a) = true≢false (sym (at-place 0 (words bs) (ordered-in _ (g .based, g .markers, g .pairs, g .kinds)) p w e) ∙ a)
   shape-good g (strayBit {p = p} {w = w} e a) = true≢false (sym (g .clean p w e) ∙ a)
-  shape-good g (missingEnd n) = n (at-end 0 (words bs) (ordered-in _ (g .markers, g .pairs, g .kinds)))
+  shape-good g (missingEnd n) = n (at-end 0 (words bs) (ordered-in _ (g .based, g .markers, g .pairs, g .kinds)))
   shape-good g (bytesLeft n) = n (g .whole)
 
 pub none-bad : NoneBad

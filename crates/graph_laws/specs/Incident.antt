@@ -8,11 +8,11 @@ use native.Mathlib.Omega.{arith}
 use lib.ListN.{length, length-map, length-append}
 use lib.Dec.{eqb}
 use Rattle.graph_laws.specs.Bools.{not-true, eqb-sound, eqb-same}
-use Rattle.definition.specs.Lists.{concat, mem, consIf, filter}
+use Rattle.definition.specs.Lists.{concat, mem, filter}
 use Rattle.definition.specs.FactorGraph.{Bale, Node, gradeNode, factorNode, inputNode, treeNode, eqNode, Edge, edge, markerNumbers, gradesOf, hasTree, markerEdges, builtEdges, eqPair}
 use Rattle.definition.specs.Components.{isIncident, incidentEdges}
 use Rattle.graph_laws.specs.Lists.{All, All-append, All-map-into, All-every, All-in, filter-append, filter-none, filter-every, filter-map, append-none}
-use Rattle.graph_laws.specs.Ranks.{NoDup, filter-concat, upto-nodup}
+use Rattle.graph_laws.specs.Ranks.{NoDup, filter-concat, upto-nodup, one-of}
 use Rattle.graph_laws.specs.AloneChecks.{length-upto}
 use Rattle.graph_laws.specs.Distinct.{grades-nodup}
 
@@ -148,22 +148,6 @@ module _ (b : Bale) where
       go false = last (λ g. ofGrade m g) (λ g. refl)
 
   -- ---- a grade
-  one-of : (g : ℕ) (f : ℕ → Bool) → ((x : ℕ) → f x ≡ true → eqb g x ≡ true) → (xs : List ℕ) → NoDup eqb xs → length (filter f xs) ≤ 1
-  one-of g f h [] n = omega arith
-  one-of g f h (x ∷ xs) n = go (f x) refl (one-of g f h xs (n .1))
-    where
-      go : (c : Bool) → f x ≡ c → length (filter f xs) ≤ 1 → length (consIf c x (filter f xs)) ≤ 1
-      go false e r = r
-      go true e r =
-          let z : filter f xs ≡ [] =
-          filter-none f xs
-          (All-in eqb eqb-same (λ a. f a ≡ false) xs
-          (λ a k.
-          not-true (f a)
-          (λ t. true≢false (sym (subst (λ (y : ℕ). mem eqb y xs ≡ true) (sym (eqb-sound g a (h a t)) ∙ eqb-sound g x (h x e)) k) ∙ n .0))))
-          in
-          omega (arith, ap length z)
-
   at-most-one : (g : ℕ) (f : ℕ → Edge Node) (last : List (Edge Node)) (xs : List ℕ) → NoDup eqb xs → ((x : ℕ) → isIncident eqNode (gradeNode g) (f x) ≡ true → eqb g x ≡ true)
       → filter (isIncident eqNode (gradeNode g)) last ≡ [] → length (filter (isIncident eqNode (gradeNode g)) (map f xs ++ last)) ≤ 1
   at-most-one g f last xs n h k =

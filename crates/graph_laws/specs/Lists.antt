@@ -117,13 +117,13 @@ module _ {A : Type 0} (P Q : A → Type 0) where
 
 -- select
 module _ {A : Type 0} where
+  pub keep-append : (b : Bool) (x : A) (xs ys : List A) → consIf b x (xs ++ ys) ≡ consIf b x xs ++ ys
+  keep-append true x xs ys = refl
+  keep-append false x xs ys = refl
+
   pub filter-append : (f : A → Bool) (xs ys : List A) → filter f (xs ++ ys) ≡ filter f xs ++ filter f ys
   filter-append f [] ys = refl
-  filter-append f (x ∷ xs) ys = rw (filter-append f xs ys) (go (f x))
-    where
-      go : (b : Bool) → consIf b x (filter f xs ++ filter f ys) ≡ consIf b x (filter f xs) ++ filter f ys
-      go true = refl
-      go false = refl
+  filter-append f (x ∷ xs) ys = rw (filter-append f xs ys) (keep-append (f x) x (filter f xs) (filter f ys))
 
   pub filter-cong : (f g : A → Bool) (xs : List A) → All (λ a. f a ≡ g a) xs → filter f xs ≡ filter g xs
   filter-cong f g [] h = refl

@@ -2,13 +2,13 @@
 use mathlib.Core.Path.{_≡_, refl, sym, ap, _∙_, subst}
 use mathlib.Core.Bool.{Bool, true, false, cond, _||_, _&&_, true≢false, false≢true}
 use mathlib.Core.List.{List, [], _∷_, _++_, map, map-map, map-append}
-use Prim.Native.Nat.{ℕ, zero, suc, _<_}
+use Prim.Native.Nat.{ℕ, zero, suc, _≤_, _<_}
 use native.Mathlib.Omega.{arith}
 use lib.ListN.{length, getD}
 use lib.Dec.{eqb, eqb·zero-suc, eqb·suc-zero, eqb·suc-suc}
-use Rattle.graph_laws.specs.Bools.{not-true}
+use Rattle.graph_laws.specs.Bools.{not-true, eqb-sound, eqb-same}
 use Rattle.definition.specs.Lists.{consIf, filter, concat, mem, indexOf}
-use Rattle.graph_laws.specs.Lists.{All, upto, count-suc, All-append, All-left, All-right, All-map-into, All-mono, All-every, All-in, map-cong, filter-append}
+use Rattle.graph_laws.specs.Lists.{All, upto, count-suc, All-append, All-left, All-right, All-map-into, All-mono, All-every, All-in, map-cong, filter-append, filter-none}
 use Rattle.graph_laws.specs.Walk.{mem-map}
 
 abbrev pub NoDup : {A : Type 0} → (A → A → Bool) → List A → Type 0
@@ -151,3 +151,20 @@ map-concat g f (x ∷ xs) = ap (λ l. map g (f x) ++ l) (map-concat g f xs) ∙ 
 pub mem-none : {A B : Type 0} (eq : B → B → Bool) (b : B) (f : A → B) → ((a : A) → eq b (f a) ≡ false) → (xs : List A) → mem eq b (map f xs) ≡ false
 mem-none eq b f h [] = refl
 mem-none eq b f h (x ∷ xs) = rw (h x) (mem-none eq b f h xs)
+
+-- in a list without repeats at most one number passes a test that only g passes
+pub one-of : (g : ℕ) (f : ℕ → Bool) → ((x : ℕ) → f x ≡ true → eqb g x ≡ true) → (xs : List ℕ) → NoDup eqb xs → length (filter f xs) ≤ 1
+one-of g f h [] n = omega arith
+one-of g f h (x ∷ xs) n = go (f x) refl (one-of g f h xs (n .1))
+  where
+    go : (c : Bool) → f x ≡ c → length (filter f xs) ≤ 1 → length (consIf c x (filter f xs)) ≤ 1
+    go false e r = r
+    go true e r =
+        let z : filter f xs ≡ [] =
+        filter-none f xs
+        (All-in eqb eqb-same (λ a. f a ≡ false) xs
+        (λ a k.
+        not-true (f a)
+        (λ t. true≢false (sym (subst (λ (y : ℕ). mem eqb y xs ≡ true) (sym (eqb-sound g a (h a t)) ∙ eqb-sound g x (h x e)) k) ∙ n .0))))
+        in
+        omega (arith, ap length z)

@@ -43,7 +43,7 @@ no-first : (bs : List Bool) → lowestPlace bs ≡ none → AllFalse bs
 unfolding lowestPlace
 no-first bs e = nowhere 0 bs e
 
-inside : (a b x : Float) → T (not (outside a b x)) → In a b x
+pub inside : (a b x : Float) → T (not (outside a b x)) → In a b x
 unfolding outside
 inside a b x h = let t = twice (le a x && le x b) h in record { low = and-l (le a x) (le x b) t; high = and-r (le a x) (le x b) t }
   where

@@ -8,7 +8,7 @@ use mathlib.Core.Option.{Option, none, some}
 use mathlib.Core.List.{List, [], _∷_, _++_, map, append-assoc, nil≢cons, cons≢nil, head-eq-of-cons-eq, tail-eq-of-cons-eq}
 use lib.Dec.{eqb}
 use lib.ListN.{length, getD, replicate}
-use Rattle.definition.specs.Lists.{concat}
+use Rattle.definition.specs.Lists.{consIf, concat}
 use Rattle.definition.specs.Refusals.{orRefused}
 use Rattle.definition.specs.BaleFile.{wordOf, words, wordKind, badWordFrom, badWord, wordsOfKind}
 use Rattle.definition.specs.FileAnswer.{fileVerdict}
@@ -17,7 +17,7 @@ use Rattle.definition.specs.Shift.{onFirst, bales, shiftListing}
 use Rattle.claims.specs.FileRefused.{GoodFile}
 use Rattle.claims.specs.ShiftCut.{NoEnd, EndedBale, EndedButLast, CutIntoBales, CutsJoined, AllGood, ShiftListed}
 use Rattle.graph_laws.specs.Bools.{eqb-same}
-use Rattle.graph_laws.specs.Lists.{All, All-append, All-replicate, All-map-from, concat-append, concat-map-append, filter-none, append-none}
+use Rattle.graph_laws.specs.Lists.{All, All-append, All-keep, All-replicate, All-map-from, concat-append, concat-map-append, keep-append, filter-none, append-none}
 use Rattle.graph_laws.specs.GoodFile.{none-bad}
 use Rattle.shift_laws.specs.Cut.{isEndWord, one-word, lastBale, bales-ended, bales-open, cut-bales}
 use Rattle.shift_laws.specs.Ended.{endedBales, openBale, end-there, no-end-there, cut}
@@ -142,7 +142,13 @@ good-ended f g =
     let four : List ℕ = replicate (g .markers) 4 in
     let five : List ℕ = replicate (g .pairs) 5 in
     let other : ℕ → Type 0 = λ k. eqb k 6 ≡ false in
-    let s = split-last (words f) (1 ∷ 2 ∷ 3 ∷ (four ++ five)) 6 (g .kinds ∙ ap (λ (l : List ℕ). 1 ∷ 2 ∷ 3 ∷ l) (sym (append-assoc four five (6 ∷ [])))) in
+    let rest : List ℕ = 3 ∷ (four ++ five) in
+    let ks : List ℕ = 1 ∷ 2 ∷ consIf (g .based) 7 rest in
+    let e : map wordKind (words f) ≡ ks ++ 6 ∷ [] =
+    g .kinds
+    ∙ ap (λ (l : List ℕ). 1 ∷ 2 ∷ consIf (g .based) 7 (3 ∷ l)) (sym (append-assoc four five (6 ∷ [])))
+    ∙ ap (λ (l : List ℕ). 1 ∷ 2 ∷ l) (keep-append (g .based) 7 rest (6 ∷ [])) in
+    let s = split-last (words f) ks 6 e in
     let a = All-append other four five (All-replicate other (g .markers) 4 refl) (All-replicate other (g .pairs) 5 refl) in
     record {
       whole = g .whole;
@@ -150,7 +156,7 @@ good-ended f g =
       end = s .1;
       words-are = s .2;
       ends = s .4;
-      only = none-six (s .0) (1 ∷ 2 ∷ 3 ∷ (four ++ five)) (s .3) (refl, (refl, (refl, a)));
+      only = none-six (s .0) ks (s .3) (refl, (refl, All-keep other (g .based) 7 rest refl (refl, a)));
     }
 
 -- ---- the listing

@@ -26,7 +26,8 @@ pub use Rattle.graph_laws.specs.CallLengths.{SameLengths, NumbersFit, call-leng
 pub use Rattle.claims.specs.First.{First}
 pub use Rattle.claims.specs.Refused.{Fails}
 pub use Rattle.graph_laws.specs.Refused.{verdict-refused, verdict-accepted}
--- Number 9 falls at the first bad place of a bale file and nowhere else; a file without one has document 01's order. In the program it comes ahead of 1 to 8.
+-- Number 9 falls at the first bad place of a bale file and nowhere else; a file without one has document 01's order, with document 02's kind 7 or without
+-- it. In the program it comes ahead of 11, a base rate of 0, and that ahead of 1 to 8.
 pub use Rattle.claims.specs.FileRefused.{BadAt, FirstBad, FileJudged, GoodFile, NoneBad, FileFails, FileListed}
 pub use Rattle.graph_laws.specs.FileRefused.{file-judged, file-listing}
 pub use Rattle.graph_laws.specs.GoodFile.{none-bad}

@@ -1,5 +1,6 @@
 pub mod Demand3
 pub mod TwoReaders
+pub mod BaseRate
 pub mod AllPatterns
 pub mod TriedSettings
 pub mod Facts

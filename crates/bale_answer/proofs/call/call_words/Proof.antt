@@ -3,6 +3,7 @@ use mathlib.Core.Path.{_≡_, refl, ap, _∙_}
 use mathlib.Core.List.{map}
 use Rattle.definition.specs.BaleFile.{codedSettings, evidenceOf, pairOf}
 use Rattle.definition.specs.Refusals.{markersOf, pairsOf}
+use Rattle.bale_file.specs.Base.{rateOf}
 use Rattle.bale_file.specs.Laid.{laid-markers, laid-pairs}
 use Rattle.bale_answer.specs.Coded.{same-call}
 use borrow.Author.Needs.{needs}
@@ -18,16 +19,18 @@ fill-pairs-requires c κs = search needs
 -- the slices have just the lengths of the words
 markers-are :
     (c : tie.After-fill-evidence) →
-    markersOf (c .fill-evidence .last .1 .0) ≡ map evidenceOf (c .before .before .before .before .before .before .before .before .before .before .before .before .args .markers .now)
+    let a = c .before .before .before .before .before .before .before .before .before .before .before .before .before .args in
+    markersOf (c .fill-evidence .last .1 .1 .0) ≡ map (evidenceOf (rateOf (a .decoder .reading .base))) (a .markers .now)
 markers-are c =
-    let d = c .before .before .before .before .before .before .before .before .before .before .before .before in
-    ap markersOf (c .fill-evidence .ensures) ∙ laid-markers (d .args .markers .now) (d .args .evidence .now) (d .pre .0)
+    let d = c .before .before .before .before .before .before .before .before .before .before .before .before .before in
+    ap markersOf (c .fill-evidence .ensures) ∙ laid-markers _ (d .args .markers .now) (d .args .evidence .now) (d .pre .0)
 
 pairs-are :
     (c : tie.After-fill-pairs) →
-    pairsOf (c .fill-pairs .last .1 .0) ≡ map pairOf (c .before .before .before .before .before .before .before .before .before .before .before .before .before .before .before .before .args .pairs .now)
+    let a = c .before .before .before .before .before .before .before .before .before .before .before .before .before .before .before .before .before .args in
+    pairsOf (c .fill-pairs .last .1 .0) ≡ map pairOf (a .pairs .now)
 pairs-are c =
-    let d = c .before .before .before .before .before .before .before .before .before .before .before .before .before .before .before .before in
+    let d = c .before .before .before .before .before .before .before .before .before .before .before .before .before .before .before .before .before in
     ap pairsOf (c .fill-pairs .ensures) ∙ laid-pairs (d .args .pairs .now) (d .args .numbers .now) (d .pre .1)
 
 grade-count-requires : tie.Need-grade-count-requires
@@ -65,7 +68,7 @@ returns c =
     let done = c .before .before .before .before .before .before .before .before .before .before .before .before in
     let read = done .before .before .before .before .before .before .before .before .before in
     let r = read .before .before .before .before .before .before .before .before .before .before .before .before .before .before .before .before .before .before .before .before .args .decoder .reading in (
-      (markers-are (read .before .before .before .before .before .before .before .before), pairs-are (read .before .before .before .before)),
+      (markers-are (read .before .before .before .before .before .before .before), pairs-are (read .before .before .before)),
       same-call (codedSettings (r .rates) (r .prior)) _ _ _ _ _ _ _ refl (read .grade-count .ensures) (done .calibrate .ensures),
     )
 

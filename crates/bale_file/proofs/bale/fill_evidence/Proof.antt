@@ -3,24 +3,31 @@ use Prim.Native.Nat.{ℕ, _-_, _*_, _≤_}
 use native.Mathlib.Omega.{arith}
 use mathlib.Core.Path.{_≡_, refl, ap, _∙_}
 use mathlib.Core.Logic.{⊎-elim}
+use mathlib.Core.List.{List}
+use lib.Ieee.{Float}
 use lib.ListN.{length, length-set, take}
 use Rattle.definition.specs.BaleFile.{evidenceOf}
 use Rattle.definition.specs.Call.{overwrite}
+use Rattle.bale_file.specs.Base.{rateOf}
 use Rattle.bale_file.specs.Laid.{inTwos, evidenceLaid, laid-next, laid-room, laid-words}
 use Rattle.bale_file.proofs.bale.fill_evidence.Statement.{statement}
 use Rattle.bale_file.proofs.bale.fill_evidence.Tie as tie
 
+-- these words over the front of a slice
+abbrev over : ℕ → List ℕ → List Float → List Float
+over base ws xs = overwrite (inTwos (λ w. evidenceOf (rateOf base) w .absent) (λ w. evidenceOf (rateOf base) w .present) ws) xs
+
 abbrev Inv-loop : tie.InvT-loop
-Inv-loop words evidence₀ room n i₀ evidence i =
+Inv-loop words base evidence₀ room n i₀ evidence i =
     (i ≤ n)
     × (n ≤ length words)
     × (2 * n ≤ length evidence₀)
-    × (overwrite (inTwos (λ w. evidenceOf w .absent) (λ w. evidenceOf w .present) (take n words)) evidence₀ ≡ evidenceLaid words evidence₀)
-    × (evidence ≡ overwrite (inTwos (λ w. evidenceOf w .absent) (λ w. evidenceOf w .present) (take i words)) evidence₀)
+    × (over base (take n words) evidence₀ ≡ evidenceLaid (rateOf base) words evidence₀)
+    × (evidence ≡ over base (take i words) evidence₀)
     × (length evidence ≡ length evidence₀)
 
 abbrev μ-loop : tie.MeasureT-loop
-μ-loop words evidence₀ room n i₀ evidence i = n - i
+μ-loop words base evidence₀ room n i₀ evidence i = n - i
 
 loop-holds : tie.Need-loop-holds Inv-loop μ-loop
 loop-holds c =
@@ -84,7 +91,7 @@ returns c =
     let s = c .before .loop in
     let a = c .before .before .before .before .before .args in
     let e : s .i ≡ c .before .before .if1 .n = omega arith in
-    s .inv .4 ∙ ap (λ (k : ℕ). overwrite (inTwos (λ w. evidenceOf w .absent) (λ w. evidenceOf w .present) (take k (a .words .now))) (a .evidence .now)) e ∙ s .inv .3
+    s .inv .4 ∙ ap (λ (k : ℕ). over (a .base) (take k (a .words .now)) (a .evidence .now)) e ∙ s .inv .3
 
 pub fill-evidence-spec : {M : Type 1} → statement M
 fill-evidence-spec =

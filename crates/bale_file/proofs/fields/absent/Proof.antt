@@ -1,26 +1,41 @@
 -- `bale_file::fields::absent` meets its contract.
 use Prim.Native.Nat.{ℕ}
 use native.Mathlib.Omega.{arith}
-use mathlib.Core.Path.{ap, _∙_}
+use mathlib.Core.Path.{sym, ap, _∙_}
+use mathlib.Core.Option.{Option, some}
 use borrow.Author.Needs.{needs}
-use Rattle.definition.specs.BaleFile.{bits, evidenceOf}
-use Rattle.definition.specs.Floats.{ratio}
+use Rattle.definition.specs.Floats.{_⊗_, ratio}
+use Rattle.definition.specs.BaleFile.{evidenceOf}
+use Rattle.bale_file.specs.Base.{rate-none, rate-of}
+use Rattle.bale_file.specs.Fractions.{absent-based}
 use Rattle.bale_file.proofs.fields.absent.Statement.{statement}
 use Rattle.bale_file.proofs.fields.absent.Tie as tie
 
-over-16384-requires : tie.Need-over-16384-requires
-over-16384-requires c κs = search needs
+bare-absent-requires : tie.Need-bare-absent-requires
+bare-absent-requires c κs = search needs
 
 returns : tie.Need-returns
-unfolding bits evidenceOf
-returns c = c .over-16384 .ensures ∙ ap (λ (n : ℕ). ratio n 16384) (omega arith)
+returns c =
+    let a = c .before .before .args in
+    c .bare-absent .ensures ∙ ap (λ (r : Option ℕ). evidenceOf r (a .word) .absent) (rate-none (a .base) (c .before .if1 .taken))
 
-over-16384-requires-2 : tie.Need-over-16384-requires-2
-over-16384-requires-2 c κs = search needs
+bare-absent-requires-2 : tie.Need-bare-absent-requires-2
+bare-absent-requires-2 c κs = search needs
+
+lower-ten-requires : tie.Need-lower-ten-requires
+lower-ten-requires c κs = search needs
+
+over-1024-requires : tie.Need-over-1024-requires
+over-1024-requires c κs = omega (arith, c .lower-ten .ensures .1)
 
 returns-2 : tie.Need-returns-2
-unfolding bits evidenceOf
-returns-2 c = c .over-163842 .ensures ∙ ap (λ (n : ℕ). ratio n 16384) (omega arith)
+returns-2 c =
+    let a = c .before .before .before .before .args in
+    let n = c .before .lower-ten .result in
+    let l = c .before .lower-ten .ensures in
+    (λ i. c .before .before .bare-absent2 .ensures i ⊗ c .over-1024 .ensures i)
+    ∙ absent-based n (a .word) (omega (arith, l .1))
+    ∙ ap (λ (r : Option ℕ). evidenceOf r (a .word) .absent) (ap some (l .0) ∙ sym (rate-of (a .base) (c .before .before .before .if1 .left)))
 
 pub absent-spec : {M : Type 1} → statement M
-absent-spec = tie.close (tie.spec over-16384-requires returns over-16384-requires-2 returns-2)
+absent-spec = tie.close (tie.spec bare-absent-requires returns bare-absent-requires-2 lower-ten-requires over-1024-requires returns-2)

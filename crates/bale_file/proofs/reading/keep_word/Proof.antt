@@ -20,15 +20,19 @@ returns-3 : tie.Need-returns-3
 unfolding keptWord
 returns-3 c = simp (c .before .before .before .next-place .ensures, c .if3 .taken)
 
+returns-4 : tie.Need-returns-4
+unfolding keptWord
+returns-4 c = simp (c .before .before .before .before .next-place .ensures, c .if4 .taken)
+
 put-word-requires : tie.Need-put-word-requires
 put-word-requires c κs = search needs
 
 same-length : tie.Need-same-length
 same-length c = search needs
 
-returns-4 : tie.Need-returns-4
+returns-5 : tie.Need-returns-5
 unfolding keptWord
-returns-4 c = simp (c .before .before .before .before .before .before .before .before .next-place .ensures, c .before .before .put-word .ensures .0, c .before .before .put-word .ensures .1, c .before .before .before .before .if4 .taken)
+returns-5 c = simp (c .before .before .before .before .before .before .before .before .before .next-place .ensures, c .before .before .put-word .ensures .0, c .before .before .put-word .ensures .1, c .before .before .before .before .if5 .taken)
 
 put-word-requires-2 : tie.Need-put-word-requires-2
 put-word-requires-2 c κs = search needs
@@ -36,13 +40,13 @@ put-word-requires-2 c κs = search needs
 same-length-2 : tie.Need-same-length-2
 same-length-2 c = search needs
 
-returns-5 : tie.Need-returns-5
-unfolding keptWord
-returns-5 c = simp (c .before .before .before .before .before .before .before .before .before .next-place .ensures, c .before .before .put-word2 .ensures .0, c .before .before .put-word2 .ensures .1, c .before .before .before .before .if5 .taken)
-
 returns-6 : tie.Need-returns-6
 unfolding keptWord
-returns-6 c = simp (c .before .before .before .before .before .next-place .ensures, ne-eqb _ _ (c .before .before .before .before .if1 .left), ne-eqb _ _ (c .before .before .before .if2 .left), ne-eqb _ _ (c .before .before .if3 .left), ne-eqb _ _ (c .before .if4 .left), ne-eqb _ _ (c .if5 .left))
+returns-6 c = simp (c .before .before .before .before .before .before .before .before .before .before .next-place .ensures, c .before .before .put-word2 .ensures .0, c .before .before .put-word2 .ensures .1, c .before .before .before .before .if6 .taken)
+
+returns-7 : tie.Need-returns-7
+unfolding keptWord
+returns-7 c = simp (c .before .before .before .before .before .before .next-place .ensures, ne-eqb _ _ (c .before .before .before .before .before .if1 .left), ne-eqb _ _ (c .before .before .before .before .if2 .left), ne-eqb _ _ (c .before .before .before .if3 .left), ne-eqb _ _ (c .before .before .if4 .left), ne-eqb _ _ (c .before .if5 .left), ne-eqb _ _ (c .if6 .left))
 
 pub keep-word-spec : {M : Type 1} → statement M
 keep-word-spec =
@@ -52,10 +56,11 @@ keep-word-spec =
     returns
     returns-2
     returns-3
+    returns-4
     put-word-requires
     same-length
-    returns-4
+    returns-5
     put-word-requires-2
     same-length-2
-    returns-5
-    returns-6)
+    returns-6
+    returns-7)

@@ -25,7 +25,14 @@ unfolding fieldWidth
 returns-5 c = rw (c .if5 .taken)
 
 returns-6 : tie.Need-returns-6
-returns-6 c = rw (width-none _ (c .before .before .before .before .if1 .left) (c .before .before .before .if2 .left) (c .before .before .if3 .left) (c .before .if4 .left) (c .if5 .left))
+unfolding fieldWidth
+returns-6 c = rw (c .if6 .taken)
+
+returns-7 : tie.Need-returns-7
+returns-7 c =
+    rw
+    (width-none _ (c .before .before .before .before .before .if1 .left) (c .before .before .before .before .if2 .left) (c .before .before .before .if3 .left)
+    (c .before .before .if4 .left) (c .before .if5 .left) (c .if6 .left))
 
 pub field-limit-spec : {M : Type 1} → statement M
-field-limit-spec = tie.close (tie.spec returns returns-2 returns-3 returns-4 returns-5 returns-6)
+field-limit-spec = tie.close (tie.spec returns returns-2 returns-3 returns-4 returns-5 returns-6 returns-7)

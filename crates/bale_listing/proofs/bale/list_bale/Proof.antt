@@ -94,7 +94,7 @@ unfolding ofBits
 returns c = λ bs t. refused-listed bs _ _ _ _ (c .before .before .before .before .before .before .before .before .before .before .before .before .before .before .before .answer-bale .ensures bs t) _ _ (c .before .before .before .before .before .outcome .given .1) _ _ _ (c .before .before .put-refusal .ensures)
 
 same-length-4 : tie.Need-same-length-4
-same-length-4 c = search needs
+same-length-4 c = c .before .before .before .before .before .before .before .before .before .before .before .before .before .before .before .before .before .before .before .before .before .before .before .before .before .before .before .answer-bale .kept .1 .1 .1 .0
 
 same-length-5 : tie.Need-same-length-5
 same-length-5 c = search needs

@@ -1,16 +1,17 @@
 -- `trial::settings_under` meets its contract.
+use native.Mathlib.Nat.{le-of-lt}
 use Rattle.trial_laws.specs.Range.{below}
 use Rattle.trials.proofs.trial.settings_under.Statement.{statement}
 use Rattle.trials.proofs.trial.settings_under.Tie as tie
 
 over-1024-requires : tie.Need-over-1024-requires
-over-1024-requires c κs = below _ (c .pre .alpha)
+over-1024-requires c κs = le-of-lt (below _ (c .pre .alpha))
 
 over-1024-requires-2 : tie.Need-over-1024-requires-2
-over-1024-requires-2 c κs = below _ (c .before .pre .beta)
+over-1024-requires-2 c κs = le-of-lt (below _ (c .before .pre .beta))
 
 over-1024-requires-3 : tie.Need-over-1024-requires-3
-over-1024-requires-3 c κs = below _ (c .before .before .pre .prior)
+over-1024-requires-3 c κs = le-of-lt (below _ (c .before .before .pre .prior))
 
 returns : tie.Need-returns
 returns c =
