@@ -7,10 +7,9 @@ use mathlib.Core.List.{List, [], _∷_}
 use lib.Dec.{ltb}
 use Rattle.definition.specs.BaleFile.{words, badWord, bits, baleOfWords}
 use Rattle.definition.specs.Refusals.{Verdict, accepted, refused, tooMany, lowestPlaceFrom, lowestPlace, orRefused}
-use Rattle.definition.specs.FileAnswer.{fileVerdict}
-use Rattle.base_rate_laws.specs.Kinds.{saysZero, zeroPlace}
+use Rattle.definition.specs.FileAnswer.{zeroBase, fileVerdict}
+use Rattle.base_rate_laws.specs.Kinds.{zeroPlace}
 use Rattle.bale_file.specs.declared.decoder.Decoder.{Decoder}
-use Rattle.bale_file.specs.Base.{rateOf}
 use Rattle.bale_file.specs.Decoder.{finished}
 use Rattle.bale_answer.specs.declared.refusals.Check.{Check}
 use Rattle.bale_answer.specs.declared.refusals.Check.the-variants.{Refused, Passed}
@@ -29,7 +28,7 @@ fileCheck d = orRefused 9 (finished d) accepted
 
 -- in a good file the word is word 2
 unfoldable pub baseCheck : Decoder → Verdict
-baseCheck d = orRefused 11 (zeroPlace (rateOf (d .reading .base))) accepted
+baseCheck d = orRefused 11 (zeroPlace (d .reading .base)) accepted
 
 unfoldable pub sizeCheck : Decoder → Verdict
 sizeCheck d = orRefused 1 (lowestPlace (overCounts d ∷ [])) accepted
@@ -49,8 +48,8 @@ pub file-good : (d : Decoder) (o : Option ℕ) → o ≡ finished d → o ≡ no
 unfolding fileCheck orRefused
 file-good d o e f = ap (λ (x : Option ℕ). orRefused 9 x accepted) (sym f ∙ e)
 
-module _ (d : Decoder) (b : Bool) (e : b ≡ saysZero (rateOf (d .reading .base))) where
-  place : (v : Bool) → b ≡ v → cond v (some 2) none ≡ zeroPlace (rateOf (d .reading .base))
+module _ (d : Decoder) (b : Bool) (e : b ≡ zeroBase (d .reading .base)) where
+  place : (v : Bool) → b ≡ v → cond v (some 2) none ≡ zeroPlace (d .reading .base)
   place v k = ap (λ (z : Bool). cond z (some 2) none) (sym k ∙ e)
 
   pub base-zero : b ≡ true → refused 11 2 ≡ baseCheck d
@@ -93,11 +92,11 @@ own-is d file base size two first v f b s t e k = (λ i. firstOf (firstOf (sym f
 -- a refusal of theirs is the file's, whose words are bad, say a base rate of 0, or are too many
 pub own-refused :
     (bs : List ℕ) (d : Decoder) → finished d ≡ badWord bs →
-    (badWord bs ≡ none → zeroAt bs ≡ zeroPlace (rateOf (d .reading .base))) →
+    (badWord bs ≡ none → zeroAt bs ≡ zeroPlace (d .reading .base)) →
     (badWord bs ≡ none → tooMany 24 24 140 (baleOfWords (words bs)) ≡ overCounts d) →
     (n p : ℕ) → ownChecks d ≡ refused n p → fileVerdict bs ≡ refused n p
 unfolding fileCheck baseCheck sizeCheck orRefused lowestPlace lowestPlaceFrom
-own-refused bs d e zero over n p h = go (finished d) (zeroPlace (rateOf (d .reading .base))) (overCounts d) (sym e) zero over h
+own-refused bs d e zero over n p h = go (finished d) (zeroPlace (d .reading .base)) (overCounts d) (sym e) zero over h
   where
     go :
         (o z : Option ℕ) (b : Bool) → badWord bs ≡ o → (badWord bs ≡ none → zeroAt bs ≡ z) →
@@ -108,9 +107,9 @@ own-refused bs d e zero over n p h = go (finished d) (zeroPlace (rateOf (d .read
     go none none false e zero over h = absurd (subst Accepts h tt)
 
 -- where they pass, the file is good and not too large, and has no base rate of 0
-pub own-passed : (d : Decoder) → ownChecks d ≡ accepted → (finished d ≡ none) × (zeroPlace (rateOf (d .reading .base)) ≡ none) × (overCounts d ≡ false)
+pub own-passed : (d : Decoder) → ownChecks d ≡ accepted → (finished d ≡ none) × (zeroPlace (d .reading .base) ≡ none) × (overCounts d ≡ false)
 unfolding fileCheck baseCheck sizeCheck orRefused lowestPlace lowestPlaceFrom
-own-passed d h = go (finished d) (zeroPlace (rateOf (d .reading .base))) (overCounts d) h
+own-passed d h = go (finished d) (zeroPlace (d .reading .base)) (overCounts d) h
   where
     go : (o z : Option ℕ) (b : Bool) → three o z b ≡ accepted → (o ≡ none) × (z ≡ none) × (b ≡ false)
     go (some i) z b h = absurd (subst Refuses h tt)

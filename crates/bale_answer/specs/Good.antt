@@ -21,7 +21,7 @@ use Rattle.bale_file.specs.Base.{rateOf}
 use Rattle.bale_file.specs.Reading.{mostWords}
 use Rattle.bale_file.specs.Decoder.{fedOf}
 use Rattle.bale_file.specs.Decoded.{Decoded, decoded-good}
-use Rattle.bale_file.specs.DecodedBale.{decoded-settings, decoded-rate, decoded-bale}
+use Rattle.bale_file.specs.DecodedBale.{decoded-settings, decoded-bale}
 use Rattle.bale_answer.specs.Taken.{Taken}
 use Rattle.bale_answer.specs.Checks.{overCounts}
 use Rattle.bale_answer.specs.Cases.{zeroAt, verdict-small}
@@ -45,8 +45,8 @@ module _ (bs : List ℕ) (d : Decoder) (ms ps : List ℕ) (t : Taken bs d ms ps)
   pub decoded : Decoded bs (t .markersBefore) (t .pairsBefore) (fedOf d ms ps)
   decoded = subst (Decoded bs (t .markersBefore) (t .pairsBefore)) (sym (t .is-fed)) (decoded-good bs (t .markersBefore) (t .pairsBefore) whole)
 
-  pub zero-is : zeroAt bs ≡ zeroPlace (rateOf (d .reading .base))
-  zero-is = zero-base-at bs whole ∙ ap zeroPlace (sym (decoded-rate bs (t .markersBefore) (t .pairsBefore) (fedOf d ms ps) decoded))
+  pub zero-is : zeroAt bs ≡ zeroPlace (d .reading .base)
+  zero-is = zero-base-at bs whole ∙ ap zeroPlace (sym (decoded .base))
 
   pub over-is : tooMany 24 24 140 (baleOfWords (words bs)) ≡ overCounts d
   unfolding tooMany baleOfWords

@@ -4,9 +4,10 @@ ghost use mathlib.Core.Option.{none};
 ghost use Prim.Native.Nat.{_≤_, _<_};
 ghost use lib.Dec.{eqb};
 ghost use Rattle.definition.specs.BaleFile.{bits, evidenceOf};
+ghost use Rattle.definition.specs.FileAnswer.{zeroBase};
 ghost use Rattle.definition.specs.Floats.{ratio};
-ghost use Rattle.base_rate_laws.specs.Kinds.{saysZero};
 ghost use Rattle.bale_file.specs.Base.{rateOf};
+use crate::word::kind_of;
 
 // Bits 19 to 10: alpha of the rates, the grade of a pair.
 pub fn upper_ten(word: u32) -> u32
@@ -65,11 +66,11 @@ pub fn grade_count(word: u32) -> u32
     word % 2048
 }
 
-// Whether the word of kind 7, 0 where there is none, says a base rate of 0.
+// Whether a word is of kind 7 and says a base rate of 0.
 pub fn is_zero_base(word: u32) -> bool
-    ensures { λ r. ⌜ r ≡ saysZero (rateOf word) ⌝ }
+    ensures { λ r. ⌜ r ≡ zeroBase word ⌝ }
 {
-    if word == 0 {
+    if kind_of(word) != 7 {
         return false;
     }
     lower_ten(word) == 0

@@ -6,10 +6,10 @@ use mathlib.Core.Bool.{Bool, true, false, cond, true≢false}
 use mathlib.Core.Option.{Option, none, some}
 use mathlib.Core.List.{List, [], _∷_, _++_, map, nil≢cons, head-eq-of-cons-eq, tail-eq-of-cons-eq}
 use lib.Dec.{eqb}
-use lib.ListN.{length, length-map, getElem?, replicate}
+use lib.ListN.{length, length-map, getD, getElem?, replicate}
 use Rattle.definition.specs.Lists.{consIf, filter}
 use Rattle.definition.specs.Refusals.{lowestPlaceFrom, lowestPlace}
-use Rattle.definition.specs.BaleFile.{words, wordKind, bits, badWord, wordsOfKind, firstRate, baseRate, evidenceOf, baleOfWords}
+use Rattle.definition.specs.BaleFile.{words, wordKind, badWord, wordsOfKind, firstOfKind, firstRate, baseRate, evidenceOf, baleOfWords}
 use Rattle.definition.specs.FileAnswer.{zeroBase}
 use Rattle.claims.specs.BaseRate.{BaseAtTwo, BareWithoutBase}
 use Rattle.graph_laws.specs.Bools.{not-true, eqb-sound, eqb-same}
@@ -71,28 +71,32 @@ bare-without-base ws e = ap (λ (l : List ℕ). map (evidenceOf (firstRate l)) (
 
 -- ---- number 11
 
-abbrev pub saysZero : Option ℕ → Bool
-saysZero none = false
-saysZero (some b) = eqb b 0
+-- its place by the word of kind 7, which is 0 where there is none
+abbrev pub zeroPlace : ℕ → Option ℕ
+zeroPlace w = cond (zeroBase w) (some 2) none
 
-abbrev pub zeroPlace : Option ℕ → Option ℕ
-zeroPlace r = cond (saysZero r) (some 2) none
+no-word : none ≡ zeroPlace 0
+unfolding zeroBase wordKind
+no-word = refl
+
+not-zero : (w : ℕ) → Other w → zeroBase w ≡ false
+unfolding zeroBase
+not-zero w o = rw o
 
 no-zero-base : (i : ℕ) (ws : List ℕ) → All Other ws → lowestPlaceFrom i (map zeroBase ws) ≡ none
-unfolding zeroBase
-no-zero-base i ws h = nowhere i (map zeroBase ws) (All-map-into (λ c. c ≡ false) zeroBase ws (All-mono Other (λ w. zeroBase w ≡ false) (λ w o. rw o) ws h))
+no-zero-base i ws h = nowhere i (map zeroBase ws) (All-map-into (λ c. c ≡ false) zeroBase ws (All-mono Other (λ w. zeroBase w ≡ false) not-zero ws h))
 
-zero-place : {ws : List ℕ} → Sevens ws → lowestPlaceFrom 0 (map zeroBase ws) ≡ zeroPlace (firstRate (filter (λ w. eqb (wordKind w) 7) ws))
-unfolding zeroBase lowestPlaceFrom
-zero-place (bare {ws} h) = no-zero-base 0 ws h ∙ ap (λ (l : List ℕ). zeroPlace (firstRate l)) (sym (filter-none (λ w. eqb (wordKind w) 7) ws h))
-zero-place (based {w = w} {ws = ws} x y z h) = rw (x, y, z) (go (eqb (bits 10 0 w) 0))
+zero-place : {ws : List ℕ} → Sevens ws → lowestPlaceFrom 0 (map zeroBase ws) ≡ zeroPlace (getD (filter (λ w. eqb (wordKind w) 7) ws) 0 0)
+unfolding lowestPlaceFrom
+zero-place (bare {ws} h) = no-zero-base 0 ws h ∙ no-word ∙ ap (λ (l : List ℕ). zeroPlace (getD l 0 0)) (sym (filter-none (λ w. eqb (wordKind w) 7) ws h))
+zero-place (based {a} {b} {w} {ws} x y z h) = rw (not-zero a x, not-zero b y, x, y, z) (go (zeroBase w))
   where
     go : (t : Bool) → lowestPlaceFrom 2 (t ∷ map zeroBase ws) ≡ cond t (some 2) none
     go true = refl
     go false = no-zero-base 3 ws h
 
-pub zero-base-at : (bs : List ℕ) → badWord bs ≡ none → lowestPlace (map zeroBase (words bs)) ≡ zeroPlace (baseRate (words bs))
-unfolding lowestPlace baseRate wordsOfKind
+pub zero-base-at : (bs : List ℕ) → badWord bs ≡ none → lowestPlace (map zeroBase (words bs)) ≡ zeroPlace (firstOfKind 7 (words bs))
+unfolding lowestPlace firstOfKind wordsOfKind
 zero-base-at bs h = zero-place (of-file bs h)
 
 -- ---- one word at most of every other kind than 4 and 5

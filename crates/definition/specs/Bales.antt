@@ -114,7 +114,7 @@ pub record Bales : Type 0 where
   pub shift-cut : map length (bales (early ++ sample ++ stray)) ≡ 4 ∷ 24 ∷ 8 ∷ 3 ∷ []
   pub shift-listed : shiftListing (early ++ sample ++ stray)
       ≡ ascii "refused 9 at 0\nbale 1 1 1\npart 0 empty 0\n0 3F000000 3F000000\nrefused 9 at 0\nrefused 9 at 0\n"
-  -- a base rate of 300/1024 taken out of 3/4; one of 0, and one where the program's number 1 would fall, and one ahead of a bad word
+  -- a base rate of 300/1024 taken out of 3/4; one of 0, alone, ahead of 25 grades and an alpha of 0, and behind a bad word
   pub base-listed : listing (withWords (base 300 ∷ []) 12288)
       ≡ ascii "bale 1 1 1\npart 0 empty 0\n0 3ED73FBF 3F146020\n"
   pub base-zero : fileVerdict (withWords (base 0 ∷ []) 8192) ≡ refused 11 2

@@ -1,10 +1,10 @@
 -- `bale_file::fields::present` meets its contract.
-use Prim.Native.Nat.{ℕ, _-_}
+use Prim.Native.Nat.{ℕ}
 use native.Mathlib.Omega.{arith}
 use mathlib.Core.Path.{sym, ap, _∙_}
 use mathlib.Core.Option.{Option, some}
 use borrow.Author.Needs.{needs}
-use Rattle.definition.specs.Floats.{_⊗_, ratio}
+use Rattle.definition.specs.Floats.{_⊗_}
 use Rattle.definition.specs.BaleFile.{evidenceOf}
 use Rattle.bale_file.specs.Base.{rate-none, rate-of}
 use Rattle.bale_file.specs.Fractions.{present-based}
