@@ -2,18 +2,17 @@
 use Prim.Native.Nat.{ℕ, _+_, _≤_}
 use native.Mathlib.Omega.{arith}
 use native.Mathlib.Nat.{zero-add}
-use mathlib.Core.Path.{_≡_, refl, sym, ap, _∙_}
+use mathlib.Core.Path.{_≡_, sym, ap, _∙_}
 use mathlib.Core.List.{List, _++_}
 use lib.Ieee.{Float}
-use lib.ListN.{length, drop, length-replicate, length-append}
-use Rattle.definition.specs.Floats.{zeroᶠ}
+use lib.ListN.{length, drop, length-append}
 use Rattle.definition.specs.BaleFile.{words, bits, settingsOfWords, baleOfWords}
 use Rattle.definition.specs.Settings.{Settings}
 use Rattle.definition.specs.FactorGraph.{Bale}
 use Rattle.definition.specs.Refusals.{Verdict, accepted, refused, workNeeded}
 use Rattle.definition.specs.Answer.{PartAnswer, answer}
 use Rattle.definition.specs.Call as definition
-use Rattle.definition.specs.Call.{Lent, Result, sizesOf, answered, refusedAt, overwrite, answeredBy, resultOf}
+use Rattle.definition.specs.Call.{Lent, Result, answered, refusedAt, overwrite, answeredBy}
 use Rattle.definition.specs.FileAnswer.{buffers, fileVerdict, fileResult}
 use Rattle.definition.specs.Listing.{baleLine, partLines, refusal, verdictLines, listing}
 use Rattle.list_laws.specs.Put.{put}
@@ -28,36 +27,13 @@ use Rattle.bale_answer.specs.declared.answer.FileOutcome.the-variants.{Answered
 use Rattle.bale_answer.specs.Taken.{Taken}
 use Rattle.bale_answer.specs.Outcomes.{fileOutcomeOf, fileResultWith}
 use Rattle.bale_answer.specs.AcceptedFile.{AcceptedFile, accepted-file}
-use Rattle.bale_listing.specs.Fits.{settings-fit, evidence-fits}
-use Rattle.bale_listing.specs.Lent.{lentOf, ListedFrom}
-
--- the program lends what it has to
-pub lent-sizes : (wf : List Float) (wn : List ℕ) → length wf ≡ 16128 → length wn ≡ 16128 → sizesOf (lentOf wf wn) ≡ buffers
-unfolding sizesOf
-lent-sizes wf wn f n =
-    λ i. record {
-      workFloats = f i;
-      workNumbers = n i;
-      beliefNumbers = length-replicate {A = ℕ} 24 0 i;
-      beliefFloats = length-replicate 48 zeroᶠ i;
-      endingNumbers = length-replicate {A = ℕ} 96 0 i;
-      endingFloats = length-replicate 24 zeroᶠ i;
-    }
-
--- ---- the outcome is the verdict
-
-abbrev verdictIn : definition.Outcome → Verdict
-verdictIn (answered n k) = accepted
-verdictIn (refusedAt n p) = refused n p
+use Rattle.bale_answer.specs.Answering.{lentOf, verdictIn, verdict-is, accepts, left-is}
+use Rattle.base_rate_laws.specs.Fits.{settings-fit, evidence-fits}
+use Rattle.bale_listing.specs.Lent.{ListedFrom}
 
 abbrev endingsIn : definition.Outcome → ℕ
 endingsIn (answered n k) = k
 endingsIn (refusedAt n p) = 0
-
-said : (v : Verdict) (s : Settings) (b : Bale) (l : Lent) → verdictIn (resultOf v s b l .outcome) ≡ v
-unfolding resultOf answeredBy
-said accepted s b l = refl
-said (refused n p) s b l = refl
 
 -- r and l are the outcome, and what the buffers hold afterwards
 module _ (bs : List ℕ) (wf : List Float) (wn : List ℕ) (r : FileOutcome) (l : Lent) (is : fileResultWith r l ≡ fileResult bs (lentOf wf wn)) where
@@ -66,10 +42,6 @@ module _ (bs : List ℕ) (wf : List Float) (wn : List ℕ) (r : FileOutcome) (l 
 
   abbrev b : Bale
   b = baleOfWords (words bs)
-
-  verdict-is : fileVerdict bs ≡ verdictIn (fileOutcomeOf r)
-  unfolding fileResult
-  verdict-is = sym (said (fileVerdict bs) s b (lentOf wf wn)) ∙ ap (λ (x : Result). verdictIn (x .outcome)) (sym is)
 
   -- bytes that are written from the start on are written over the front
   listed :
@@ -90,38 +62,34 @@ module _ (bs : List ℕ) (wf : List Float) (wn : List ℕ) (r : FileOutcome) (l 
       (n p : ℕ) → r ≡ Refused n p → (out out′ : List ℕ) (end : ℕ) → Written out 0 (refusal n p) out′ end →
       ListedFrom bs end wf wn out (l .workFloats) (l .workNumbers) out′
   unfolding verdictLines
-  refused-listed n p e out out′ end w = listed (refused n p) (verdict-is ∙ ap (λ (x : FileOutcome). verdictIn (fileOutcomeOf x)) e) out out′ end w
+  refused-listed n p e out out′ end w = listed (refused n p) (verdict-is bs wf wn r l is ∙ ap (λ (x : FileOutcome). verdictIn (fileOutcomeOf x)) e) out out′ end w
 
   -- an answer, and the counts that the code has
   module _
       (d : Decoder) (ms ps : List ℕ) (t : Taken bs d ms ps) (n k : ℕ) (a : r ≡ Answered n k)
       (g : ℕ) (grades-are : g ≡ bits 11 0 (d .reading .grades)) where
-    accepts : fileVerdict bs ≡ accepted
-    accepts = verdict-is ∙ ap (λ (x : FileOutcome). verdictIn (fileOutcomeOf x)) a
-
     file : AcceptedFile bs d
-    file = accepted-file bs d ms ps t accepts
+    file = accepted-file bs d ms ps t (accepts bs wf wn r l is n k a)
 
     counts-are : Counts b g (d .reading .markers) (d .reading .pairs)
     counts-are = record { grades-are = sym (grades-are ∙ file .grades-are); markers-are = sym (file .markers-are); pairs-are = sym (file .pairs-are) }
 
-    left-is : fileResultWith r l ≡ answeredBy (workNeeded b) (answer s b) (lentOf wf wn)
-    unfolding fileResult resultOf
-    left-is = is ∙ ap (λ (v : Verdict). resultOf v s b (lentOf wf wn)) accepts
+    left : fileResultWith r l ≡ answeredBy (workNeeded b) (answer s b) (lentOf wf wn)
+    left = left-is bs wf wn r l is n k a
 
     stands : Parts (answer s b) (l .beliefNumbers) (l .beliefFloats) (l .endingNumbers) (l .endingFloats)
     stands =
         rw (
-          ap (λ (x : Result). x .lent .beliefNumbers) left-is,
-          ap (λ (x : Result). x .lent .beliefFloats) left-is,
-          ap (λ (x : Result). x .lent .endingNumbers) left-is,
-          ap (λ (x : Result). x .lent .endingFloats) left-is,
+          ap (λ (x : Result). x .lent .beliefNumbers) left,
+          ap (λ (x : Result). x .lent .beliefFloats) left,
+          ap (λ (x : Result). x .lent .endingNumbers) left,
+          ap (λ (x : Result). x .lent .endingFloats) left,
         )
         (answer-stands s buffers b (file .accepts) (settings-fit (words bs)) (evidence-fits (words bs)) (workNeeded b) (lentOf wf wn))
 
     many : length (answer s b) ≡ k
     unfolding answeredBy
-    many = sym (ap endingsIn (ap fileOutcomeOf (sym a) ∙ ap (λ (x : Result). x .outcome) left-is))
+    many = sym (ap endingsIn (ap fileOutcomeOf (sym a) ∙ ap (λ (x : Result). x .outcome) left))
 
     short : length (baleLine b) + length (partLines (answer s b)) ≤ 1790
     short =
@@ -153,5 +121,5 @@ module _ (bs : List ℕ) (wf : List Float) (wn : List ℕ) (r : FileOutcome) (l 
             ListedFrom bs end wf wn out (l .workFloats) (l .workNumbers) out₂
         unfolding verdictLines
         both-listed out₂ end w =
-            listed accepted accepts out out₂ end
+            listed accepted (accepts bs wf wn r l is n k a) out out₂ end
             (written-next first (w (answer s b) parts-fit) (omega (arith, short, length-append (baleLine b) (partLines (answer s b)))))

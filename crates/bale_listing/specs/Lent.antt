@@ -4,17 +4,12 @@ use native.Mathlib.Omega.{arith}
 use mathlib.Core.Path.{_≡_, refl}
 use mathlib.Core.List.{List, [], _∷_}
 use lib.Ieee.{Float}
-use lib.ListN.{length, replicate}
-use Rattle.definition.specs.Floats.{zeroᶠ}
-use Rattle.definition.specs.Call.{Lent, overwrite}
+use lib.ListN.{length}
+use Rattle.definition.specs.Call.{overwrite}
 use Rattle.definition.specs.FileAnswer.{fileResult}
 use Rattle.definition.specs.Listing.{listing}
 use Rattle.listing.specs.Front.{front-fits}
-use Rattle.zero_lookahead_belief_propagation.specs.Called.{lentWith}
-
--- the work, beside buffers of its own for the answer
-abbrev pub lentOf : List Float → List ℕ → Lent
-lentOf wf wn = lentWith wf wn (replicate 24 0) (replicate 48 zeroᶠ) (replicate 96 0) (replicate 24 zeroᶠ)
+use Rattle.bale_answer.specs.Answering.{lentOf}
 
 pub record ListedFrom (bs : List ℕ) (n : ℕ) (wf : List Float) (wn : List ℕ) (out : List ℕ) (wf′ : List Float) (wn′ : List ℕ) (out′ : List ℕ) : Type 0 where
   pub text : out′ ≡ overwrite (listing bs) out

@@ -20,3 +20,5 @@ pub mod Matching
 pub mod AllPatterns
 -- Settings tried on made-up bales.
 pub mod TriedSettings
+-- Tonnage by grade.
+pub mod Tonnage

@@ -2,9 +2,13 @@
 -- number 11).
 use Prim.Native.Nat.{ℕ}
 use mathlib.Core.Bool.{Bool, _&&_}
+use mathlib.Core.Option.{Option, none, some}
 use mathlib.Core.List.{List, [], _∷_, map}
 use lib.Dec.{eqb}
-use Rattle.definition.specs.Refusals.{Buffers, Verdict, tooMany, leastBuffers, orRefused, lowestPlace, verdict}
+use Rattle.definition.specs.Settings.{Settings}
+use Rattle.definition.specs.FactorGraph.{Bale}
+use Rattle.definition.specs.Answer.{PartAnswer, answer}
+use Rattle.definition.specs.Refusals.{Buffers, Verdict, accepted, refused, tooMany, leastBuffers, orRefused, lowestPlace, verdict}
 use Rattle.definition.specs.Call.{Lent, Result, resultOf}
 use Rattle.definition.specs.BaleFile.{words, wordKind, bits, badWord, settingsOfWords, baleOfWords}
 
@@ -26,3 +30,11 @@ fileVerdict bs =
 -- the outcome, and what the lent buffers hold afterwards
 unfoldable pub fileResult : List ℕ → Lent → Result
 fileResult bs l = resultOf (fileVerdict bs) (settingsOfWords (words bs)) (baleOfWords (words bs)) l
+
+unfoldable pub acceptedAnswer : Verdict → Settings → Bale → Option (List PartAnswer)
+acceptedAnswer accepted s b = some (answer s b)
+acceptedAnswer (refused n p) s b = none
+
+-- the parts alone; nothing where the file is refused
+unfoldable pub fileAnswer : List ℕ → Option (List PartAnswer)
+fileAnswer bs = acceptedAnswer (fileVerdict bs) (settingsOfWords (words bs)) (baleOfWords (words bs))

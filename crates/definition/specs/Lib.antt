@@ -26,6 +26,8 @@ pub mod FileAnswer
 pub mod Text
 pub mod Listing
 pub mod Shift
+-- The depot: tonnage by grade.
+pub mod Tonnage
 -- Two readers over one belt.
 pub mod Readers
 -- Markers read strongly or weakly, calls that report on many such runs: all patterns of reads, and settings tried on made-up bales.
@@ -33,7 +35,8 @@ pub mod Reads
 pub mod Report
 pub mod Patterns
 pub mod Trials
--- Computed: the constants, document 01's 'Bales to prove' with patterns of reads and made-up bales, and belts under two readers.
+-- Computed: the constants, document 01's 'Bales to prove' with patterns of reads and made-up bales, belts under two readers, and weighed bales.
 pub mod Constants
 pub mod Bales
 pub mod Belts
+pub mod Weighings

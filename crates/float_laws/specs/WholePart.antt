@@ -25,7 +25,7 @@ whole-of (fin false m e) a c C l h = cut (m * up e / down e) (a / c) (div-same (
     cut q r e l = omega arith
 
 -- the digits of the pattern b, shifted
-shifted : (d e : ℕ) → 1 ≤ e → e ≤ 150 → d * 2 ^ (e - 1) / 2 ^ 149 ≡ d / 2 ^ (150 - e)
+pub shifted : (d e : ℕ) → 1 ≤ e → e ≤ 150 → d * 2 ^ (e - 1) / 2 ^ 149 ≡ d / 2 ^ (150 - e)
 shifted d e h k =
     let s : e - 1 + (150 - e) ≡ 149 = omega arith in
     div-same (d * 2 ^ (e - 1)) (2 ^ 149) d (2 ^ (150 - e)) (pow-pos 149) (pow-pos (150 - e))

@@ -11,3 +11,5 @@ pub mod PartsLeft
 -- How long the listing is, and what stands in the buffers after a call.
 pub mod Sizes
 pub mod Answered
+-- The depot's lines, one total after the other.
+pub mod Totals

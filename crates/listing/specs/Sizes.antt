@@ -1,10 +1,7 @@
 -- How long the listing can be: a u32 has at most 10 digits, a u64 20.
-use mathlib.Core.Path.{_≡_, ap}
-use mathlib.Core.Logic.{by-cases}
+use mathlib.Core.Path.{_≡_}
 use mathlib.Core.List.{List, [], _∷_, _++_, map}
-use Prim.Native.Nat.{ℕ, zero, suc, _+_, _*_, _/_, _^_, _≤_, _<_}
-use native.Mathlib.Decide.{decLt}
-use native.Mathlib.Nat.{pow-suc}
+use Prim.Native.Nat.{ℕ, _+_, _*_, _^_, _≤_, _<_}
 use native.Mathlib.Omega.{arith}
 use lib.Ieee.{Float}
 use lib.ListN.{length, length-append}
@@ -18,20 +15,14 @@ use Rattle.definition.specs.Answer.{Belief, PartAnswer, answer, answeredBeliefs
 use Rattle.definition.specs.Text.{ascii}
 use Rattle.definition.specs.Listing.{decimal, hex, line, partFields, beliefLine, beliefLines, partLines, baleLine, refusal}
 use Rattle.listing.specs.Writing.{line-length}
-use Rattle.listing.specs.Digits.{decimal-digit, decimal-longer, hex-length}
+use Rattle.text_laws.specs.Decimal.{decimal-short}
+use Rattle.listing.specs.Digits.{hex-length}
 use Rattle.listing.specs.Lines.{headLine}
 use Rattle.graph_laws.specs.ReadBack.{numbers-append}
 
 -- a number that a u32 holds
 abbrev Small : ℕ → Type 0
 Small n = n < 2 ^ 32
-
-decimal-short : (d n : ℕ) → n < 10 ^ suc d → length (decimal n) ≤ suc d
-decimal-short zero n h = omega (arith, ap length (decimal-digit n (omega (arith, pow-suc 10 zero))))
-decimal-short (suc d) n h =
-    by-cases (decLt n 10)
-    (λ (k : n < 10). omega (arith, ap length (decimal-digit n k)))
-    (λ k. let e : 10 ^ suc (suc d) ≡ 10 ^ suc d * 10 = pow-suc 10 (suc d) in omega (arith, decimal-longer n (omega arith), decimal-short d (n / 10) (omega arith)))
 
 ten-digits : (n : ℕ) → Small n → length (decimal n) ≤ 10
 ten-digits n h = decimal-short 9 n (omega arith)

@@ -12,11 +12,11 @@ use Rattle.definition.specs.Listing.{listing}
 use Rattle.graph_laws.specs.Bools.{and-left, and-right}
 use Rattle.shift_laws.specs.Ended.{endedBales, openBale}
 use Rattle.streams.specs.Reads.{readCall}
-use Rattle.streams.specs.Input.{Came, isReading, phaseAfter, afterRead, bytes-after, phase-is, toRead, few-while-reading, came-more, less-to-read}
+use Rattle.streams.specs.Input.{Came, never, isReading, phaseAfter, afterRead, bytes-after, phase-is, toRead, few-while-reading, came-more, less-to-read}
 use Rattle.streams.specs.Writes.{HandedInOrder}
 use Rattle.streams.specs.declared.input.Phase.{Phase}
 use Rattle.shift.specs.declared.input.Shift.{Shift}
-use Rattle.shift.specs.Program.{never, textsAt, textsOf}
+use Rattle.shift.specs.Program.{textsAt, textsOf}
 use Rattle.shift.specs.Shifts.{WentOver, wentOf, HoldsShift, SomeGoing, isGoing, Going}
 use Rattle.shift.specs.Overs.{went-more}
 

@@ -1,6 +1,5 @@
 -- Which bales of the input that came are listed, and when.
 use Prim.Native.Nat.{ℕ}
-use mathlib.Core.Bool.{Bool, false}
 use mathlib.Core.List.{List, map}
 use Rattle.definition.specs.Listing.{listing}
 use Rattle.definition.specs.Shift.{bales}
@@ -8,10 +7,6 @@ use Rattle.shift_laws.specs.Ended.{endedBales}
 use Rattle.streams.specs.declared.input.Phase.{Phase}
 use Rattle.streams.specs.declared.input.Phase.the-variants.{Reading, Whole, TooLong, Unreadable}
 use Rattle.streams.specs.Input.{Came}
-
--- no byte is ever enough
-abbrev pub never : List ℕ → Bool
-never bs = false
 
 -- What is handed over: the listing of each bale that was ended, and once the end of the input was found that of every bale.
 abbrev pub textsAt : Phase → List ℕ → List (List ℕ)

@@ -8,11 +8,10 @@ use Rattle.definition.specs.Listing.{listing}
 use Rattle.shift_laws.specs.Ended.{endedBales, openBale}
 use Rattle.bale_answer.specs.Open.{OpenIn}
 use Rattle.streams.specs.Reads.{ReadCall}
-use Rattle.streams.specs.Input.{Came, isReading, cameBy, CameBy}
+use Rattle.streams.specs.Input.{Came, never, isReading, cameBy, CameBy}
 use Rattle.streams.specs.Writes.{HandedInOrder}
 use Rattle.shift.specs.declared.input.Shift.{Shift}
 use Rattle.shift.specs.declared.input.Went.{Went}
-use Rattle.shift.specs.Program.{never}
 
 -- Of the bytes bs the bales that were ended were handed over, and if all went the bytes of the one that was not are held.
 pub record WentOver (bs : List ℕ) (w : Went) (ms ps : List ℕ) : Type 0 where

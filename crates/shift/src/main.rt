@@ -9,9 +9,9 @@ ghost use Prim.Native.Nat.{ℕ, _+_, _^_, _≤_, _<_};
 ghost use lib.ListN.{length};
 ghost use Rattle.bale_answer.specs.Open.{OpenIn, SomeOpenIn};
 ghost use Rattle.streams.specs.Reads.{readCall};
-ghost use Rattle.streams.specs.Input.{Came, afterRead};
+ghost use Rattle.streams.specs.Input.{Came, never, afterRead};
 ghost use Rattle.streams.specs.Writes.{HandedInOrder};
-ghost use Rattle.shift.specs.Program.{never, textsOf};
+ghost use Rattle.shift.specs.Program.{textsOf};
 ghost use Rattle.shift.specs.Shifts.{WentOver, HoldsShift, SomeShift, SomeGoing, ReadBy};
 
 mod input;

@@ -33,6 +33,10 @@ pub record Came : Type 0 where
   pub bytes : List ℕ
   pub phase : Phase
 
+-- no byte is ever enough
+abbrev pub never : List ℕ → Bool
+never bs = false
+
 -- `enough` tells of the bytes that came whether no further byte counts
 module _ (enough : List ℕ → Bool) where
   abbrev pub afterRead : ReadCall → List ℕ → Came
@@ -123,6 +127,17 @@ few-came (pos k) (suc n) b e h = go (ltb 4294967296 b) refl
     go false f = ltb-false 4294967296 b f
     go true f = absurd (true≢false (sym (subst (λ (t : Bool). isReading (cond t TooLong (cond e Whole Reading)) ≡ true) f h)))
 
+-- and they are not enough
+not-enough : (got : ℤ) (n b : ℕ) (e : Bool) → isReading (phaseAfter got n b e) ≡ true → e ≡ false
+not-enough (negsuc k) n b e h = absurd (true≢false (sym h))
+not-enough (pos k) zero b e h = absurd (true≢false (sym h))
+not-enough (pos k) (suc n) b false h = refl
+not-enough (pos k) (suc n) b true h = go (ltb 4294967296 b) h
+  where
+    go : (t : Bool) → isReading (cond t TooLong Whole) ≡ true → true ≡ false
+    go true f = absurd (true≢false (sym f))
+    go false f = absurd (true≢false (sym f))
+
 -- how much more may come
 abbrev pub toRead : Phase → ℕ → ℕ
 toRead p n = cond (isReading p) (4294967297 - n) 0
@@ -140,6 +155,15 @@ module _ (enough : List ℕ → Bool) where
         few : (rs : List ReadCall) → isReading (cameBy enough rs .phase) ≡ true → length (cameBy enough rs .bytes) ≤ 4294967296
         few [] h = omega arith
         few (r ∷ rs) h = few-came (r .answer) (length (given r)) _ _ h
+
+    pub more-wanted : enough [] ≡ false → enough (x .bytes) ≡ false
+    more-wanted none =
+        let e = ap (λ (y : Came). isReading (y .phase)) (sym (by .came)) ∙ more in
+        subst (λ (y : Came). enough (y .bytes) ≡ false) (sym (by .came)) (wanted (by .reads) e)
+      where
+        wanted : (rs : List ReadCall) → isReading (cameBy enough rs .phase) ≡ true → enough (cameBy enough rs .bytes) ≡ false
+        wanted [] h = none
+        wanted (r ∷ rs) h = not-enough (r .answer) (length (given r)) _ _ h
 
     -- a read more
     module _ (got : ℤ) (buffer : List ℕ) where

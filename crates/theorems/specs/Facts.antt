@@ -20,7 +20,9 @@ pub use Rattle.graph_laws.specs.Convolution.{convolve-accumulates, logLength-le
 pub use Rattle.claims.specs.Parts.{inPair}
 pub use Rattle.graph_laws.specs.Paired.{believed-paired}
 -- Beliefs and endings are at most the grades, numbers fit 32 bits, every lent buffer keeps its length, a refusal leaves all as it was.
-pub use Rattle.graph_laws.specs.AnswerSizes.{AnswerSizes, answer-sizes}
+pub use Rattle.graph_laws.specs.AnswerSizes.{TwoFloats, AnswerSizes, beliefs-each, answer-sizes}
+pub use Rattle.graph_laws.specs.Lists.{All}
+pub use Rattle.graph_laws.specs.Ranks.{NoDup}
 pub use Rattle.graph_laws.specs.CallLengths.{SameLengths, NumbersFit, call-lengths, call-fits, call-refused, call-declined, call-accepted, call-counts}
 -- The verdict refuses with the first cause of document 01's table, and accepts exactly if there is none.
 pub use Rattle.claims.specs.First.{First}
@@ -31,10 +33,14 @@ pub use Rattle.graph_laws.specs.Refused.{verdict-refused, verdict-accepted}
 pub use Rattle.claims.specs.FileRefused.{BadAt, FirstBad, FileJudged, GoodFile, NoneBad, FileFails, FileListed}
 pub use Rattle.graph_laws.specs.FileRefused.{file-judged, file-listing}
 pub use Rattle.graph_laws.specs.GoodFile.{none-bad}
--- Beliefs, residuals and amounts are finite binary32 values, and their printed bits determine them.
-pub use Rattle.message_bounds.specs.Beliefs.{beliefs-in-unit}
+-- The floats of a bale file are binary32 values. So are beliefs, residuals and amounts, all finite, and their printed bits determine them.
+pub use Rattle.base_rate_laws.specs.Fits.{settings-fit, evidence-fits}
+pub use Rattle.message_bounds.specs.Beliefs.{UnitValue, UnitValues, beliefs-in-unit}
 pub use Rattle.message_bounds.specs.Amounts.{run-amounts, endings-bounded}
 pub use Rattle.message_bounds.specs.Printed.{beliefs-printable, endings-printable, printed-same}
 -- A shift's input is cut into bales in one way only, each up to its end word, and each is listed as if it were run singly.
 pub use Rattle.claims.specs.ShiftCut.{NoEnd, EndedBale, OpenBale, EndedButLast, CutIntoBales, AtBaleEnd, CutsJoined, AllGood, ShiftListed}
 pub use Rattle.shift_laws.specs.Listed.{cut-into-bales, cuts-joined, shift-listed}
+-- Which bales of an input were ended, and the bytes of the one that was not; more input adds to these.
+pub use Rattle.shift_laws.specs.Cut.{CutAs, lastBale, bales-ended}
+pub use Rattle.shift_laws.specs.Ended.{endedBales, openBale, cut, bales-split, open-short, none-ended, all-open, ended-first, open-first, ended-more, open-more}

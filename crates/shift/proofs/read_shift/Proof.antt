@@ -9,8 +9,7 @@ use lib.ListN.{length}
 use Rattle.libc.specs.Io.{Moved}
 use Rattle.streams.specs.Answers.{stored-as}
 use Rattle.streams.specs.Reads.{readCall}
-use Rattle.streams.specs.Input.{afterRead, cameBy, came-nothing}
-use Rattle.shift.specs.Program.{never}
+use Rattle.streams.specs.Input.{never, afterRead, cameBy, came-nothing}
 use Rattle.shift.specs.Shifts.{HoldsShift, isGoing, Going}
 use Rattle.shift.specs.Held.{toReadOf, going-some, going-more, going-less}
 use Rattle.shift.proofs.read_shift.Statement.{statement}

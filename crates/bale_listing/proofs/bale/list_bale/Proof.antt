@@ -3,7 +3,8 @@ use native.Mathlib.Omega.{arith}
 use Prim.Native.Nat.{_^_, _<_}
 use lib.Ieee.{ofBits}
 use Rattle.listing.specs.Sizes.{refusal-short}
-use Rattle.bale_listing.specs.Answered.{lent-sizes, refused-listed, bale-fits, some-parts, both-listed}
+use Rattle.bale_answer.specs.Answering.{lent-sizes}
+use Rattle.bale_listing.specs.Answered.{refused-listed, bale-fits, some-parts, both-listed}
 use borrow.Author.Needs.{needs}
 use Rattle.bale_listing.proofs.bale.list_bale.Statement.{statement}
 use Rattle.bale_listing.proofs.bale.list_bale.Tie as tie

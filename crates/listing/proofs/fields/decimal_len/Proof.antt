@@ -4,7 +4,7 @@ use Prim.Native.Nat.{_+_, _≤_}
 use native.Mathlib.Omega.{arith}
 use lib.ListN.{length}
 use Rattle.definition.specs.Listing.{decimal}
-use Rattle.listing.specs.Digits.{decimal-digit, decimal-longer}
+use Rattle.text_laws.specs.Decimal.{decimal-digit, decimal-longer}
 use Rattle.listing.proofs.fields.decimal_len.Statement.{statement}
 use Rattle.listing.proofs.fields.decimal_len.Tie as tie
 
