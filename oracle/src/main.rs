@@ -8,10 +8,11 @@ use std::process::ExitCode;
 use oracle::alone::parts_answer_alone;
 use oracle::call::{call, call_with_bounds};
 use oracle::random::Random;
-use oracle::{bale, generate, generate_based_files, generate_files, generate_shifts, log_table, selfcheck, shift, text, tree};
+use oracle::{bale, generate, generate_based_files, generate_files, generate_mornings, generate_shifts};
+use oracle::{log_table, selfcheck, shift, text, tonnage, tree};
 
-const USAGE: &str = "usage: oracle bale | shift | call [--bounds] | tree | table | selfcheck
-     | generate files|damaged|based|damaged-based|shifts|damaged-shifts|based-shifts|damaged-based-shifts|calls|limits SEED COUNT DIR
+const USAGE: &str = "usage: oracle bale | shift | tonnage CSV SHIFT | call [--bounds] | tree | table | selfcheck
+     | generate files|damaged|based|damaged-based|shifts|damaged-shifts|based-shifts|damaged-based-shifts|calls|limits|mornings SEED COUNT DIR
      | bounds SEED COUNT | alone SEED COUNT";
 
 fn main() -> ExitCode {
@@ -32,6 +33,7 @@ fn command(arguments: &[&str]) -> Result<bool, String> {
     match arguments {
         ["bale"] => print(&bale::listing(&input()?)),
         ["shift"] => print(&shift::listing(&input()?)),
+        ["tonnage", csv, shift] => print(&tonnage::listing(&contents(csv)?, &contents(shift)?)),
         ["call"] => print(&text::write_outcome(&call(&text::read_call(&input_text()?)?))),
         ["call", "--bounds"] => {
             let (outcome, bounds) = call_with_bounds(&text::read_call(&input_text()?)?);
@@ -40,6 +42,7 @@ fn command(arguments: &[&str]) -> Result<bool, String> {
         ["tree"] => print(&tree::tree_text(&input_text()?)?),
         ["table"] => print(&table_lines()),
         ["selfcheck"] => Ok(selfcheck::run()),
+        ["generate", "mornings", seed, count, folder] => write_mornings(number(seed)?, number(count)?, Path::new(folder)),
         ["generate", kind, seed, count, folder] => {
             write_files(kind, number(seed)?, number(count)?, Path::new(folder))
         }
@@ -57,6 +60,10 @@ fn input() -> Result<Vec<u8>, String> {
     let mut bytes = Vec::new();
     io::stdin().read_to_end(&mut bytes).map_err(|error| error.to_string())?;
     Ok(bytes)
+}
+
+fn contents(path: &str) -> Result<Vec<u8>, String> {
+    fs::read(path).map_err(|error| format!("{path}: {error}"))
 }
 
 fn input_text() -> Result<String, String> {
@@ -92,6 +99,19 @@ fn write_files(kind: &str, seed: u64, count: u64, folder: &Path) -> Result<bool,
         };
         let path = folder.join(format!("{i:06}.{ending}"));
         fs::write(&path, bytes).map_err(|error| error.to_string())?;
+    }
+    Ok(true)
+}
+
+/// A CSV and a shift for each.
+fn write_mornings(seed: u64, count: u64, folder: &Path) -> Result<bool, String> {
+    let mut random = Random::new(seed);
+    fs::create_dir_all(folder).map_err(|error| error.to_string())?;
+    for i in 0..count {
+        let morning = generate_mornings::any_morning(&mut random);
+        for (ending, bytes) in [("csv", morning.csv), ("shift", morning.shift)] {
+            fs::write(folder.join(format!("{i:06}.{ending}")), bytes).map_err(|error| error.to_string())?;
+        }
     }
     Ok(true)
 }

@@ -12,6 +12,7 @@ use crate::selfcheck_base_rates::base_rates;
 use crate::selfcheck_belts::belts;
 use crate::selfcheck_calls::{edges_of_range, graphs, order_of_refusals, refusals, wide_marks};
 use crate::selfcheck_patterns::patterns;
+use crate::selfcheck_tonnage::tonnages;
 use crate::selfcheck_trial_refusals::trials_refused_and_drawn;
 use crate::selfcheck_trials::trials;
 use crate::standins::{exp, powi};
@@ -50,6 +51,7 @@ pub fn run() -> bool {
     patterns(&mut tally);
     trials(&mut tally);
     trials_refused_and_drawn(&mut tally);
+    tonnages(&mut tally);
     println!("{} passed, {} failed", tally.passed, tally.failed);
     tally.failed == 0
 }
