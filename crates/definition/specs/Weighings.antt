@@ -9,6 +9,7 @@ use Rattle.definition.specs.Floats.{halfᶠ, oneᶠ}
 use Rattle.definition.specs.Run.{empty}
 use Rattle.definition.specs.Answer.{PartAnswer, answeredBeliefs}
 use Rattle.definition.specs.Text.{ascii}
+use Rattle.definition.specs.Listing.{decimalBefore, decimal, line, refusal}
 use Rattle.definition.specs.Tonnage.{beforeLines, linesOf, atMost, nextDigit, ended, numberFrom, frontWith, frontRow, alone, rowOf, Row, share, shareAmong, gramsIn, addEach, weighed, refusedAt, weighingFrom, weighing, totalLines, weighingLines}
 
 -- ---- what the table speaks of
@@ -56,9 +57,12 @@ pub record Weighings : Type 0 where
   pub both : weighing shift (ascii "9000,2001\n") ≡ refusedAt 14 0
   pub twice : weighing shift (ascii "0,1\n2,1\n2,1\n") ≡ refusedAt 14 2
   pub unended : weighing shift (ascii "0,5") ≡ refusedAt 14 0
+  -- as it is printed
+  pub printed : weighingLines (weighed 2 (3500 ∷ 0 ∷ 20000000000 ∷ replicate 1021 0)) ≡ ascii "0 3500\n2 20000000000\n"
+  pub told : weighingLines (refusedAt 15 1) ≡ ascii "refused 15 at 1\n"
 
 pub weighings : Weighings
-unfolding ofBits ascii beforeLines linesOf atMost nextDigit ended numberFrom frontWith frontRow alone rowOf share shareAmong gramsIn addEach weighingFrom weighing answeredBeliefs
+unfolding ofBits ascii beforeLines linesOf atMost nextDigit ended numberFrom frontWith frontRow alone rowOf share shareAmong gramsIn addEach weighingFrom weighing totalLines weighingLines decimalBefore decimal line refusal answeredBeliefs
 weighings =
     record {
       film = refl;
@@ -79,4 +83,6 @@ weighings =
       both = refl;
       twice = refl;
       unended = refl;
+      printed = refl;
+      told = refl;
     }

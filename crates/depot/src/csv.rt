@@ -4,10 +4,12 @@ ghost use mathlib.Core.List.{List, []};
 ghost use Prim.Native.Nat.{ℕ, _≤_};
 ghost use lib.ListN.{length};
 ghost use Rattle.streams.specs.Reads.{readCall};
-ghost use Rattle.streams.specs.Input.{afterRead, cameBy};
+ghost use Rattle.streams.specs.Input.{isReading, afterRead, cameBy};
 ghost use Rattle.depot.specs.Program.{enough};
 ghost use Rattle.depot.specs.Lines.{CountsLines, HoldsLines};
 use streams::Phase;
+use streams::is_reading;
+use streams::phase_after;
 
 // With so many bytes no further one counts: 10,000 good lines have at most 100,000, and 11 more are a line that is too long.
 const ENOUGH: usize = 100011;
@@ -28,6 +30,14 @@ pub fn begin() -> Csv
     }
 }
 
+// Whether there is more to read.
+pub fn is_going(csv: Csv) -> bool
+    ensures { λ r. ⌜ r ≡ isReading (csv .phase) ⌝ }
+{
+    let phase = csv.phase;
+    is_reading(phase)
+}
+
 // What a `read` gave that answered `got` and left this in its buffer, behind so many bytes.
 pub fn take_read(len: usize, got: isize, buffer: &[u8]) -> Csv
     requires { ⌜ (len ≤ 100010) × (length (now buffer) ≤ 65536) ⌝ }
@@ -35,7 +45,7 @@ pub fn take_read(len: usize, got: isize, buffer: &[u8]) -> Csv
 {
     let n = io::count(got, buffer);
     let all = len + n;
-    let phase = streams::phase_after(got, n, all as u64, ENOUGH <= all);
+    let phase = phase_after(got, n, all as u64, ENOUGH <= all);
     Csv {
         len: all,
         phase: phase,

@@ -4,7 +4,7 @@
 //
 // What is proved and what is only run is as in `bale` and `shift`: whatever is decided is decided in functions that are handed what the calls of C answered.
 ghost use mathlib.Core.Path.{_≡_};
-ghost use lib.ListN.{length, replicate, take};
+ghost use lib.ListN.{length, replicate};
 ghost use Rattle.depot.specs.Lines.{LinesReadBy};
 ghost use Rattle.depot.specs.Depots.{ReadBy, SomeDepot, OutcomeHanded};
 
@@ -20,7 +20,6 @@ use libc::STDERR_FILENO;
 use libc::STDOUT_FILENO;
 use streams::Phase;
 use streams::hand_over;
-use streams::is_reading;
 
 // Reads the lines to their end, or as many bytes as count.
 fn read_lines(from: i32, text: &mut [u8]) -> Csv
@@ -28,7 +27,7 @@ fn read_lines(from: i32, text: &mut [u8]) -> Csv
     ensures { λ r. ⌜ LinesReadBy r (now (text .exit)) ⌝ }
 {
     let mut lines = csv::begin();
-    while is_reading(lines.phase) {
+    while csv::is_going(lines) {
         let at = lines.len;
         let end = at + 65536;
         let got = libc::read(from, &mut text[at..end]);
@@ -148,7 +147,8 @@ fn main() {
     }
     let mut text = [0; 165546];
     let lines = read_lines(from, &mut text);
-    match lines.phase {
+    let phase = lines.phase;
+    match phase {
         Phase::Whole => {
             let n = lines.len;
             weigh(&text[..n], shift);

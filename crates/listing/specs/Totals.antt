@@ -32,7 +32,9 @@ lines-append g (t ∷ ts) us =
     ∙ sym (append-assoc l (totalLines (suc g) ts) (totalLines (g + suc (length ts)) us))
 
 -- the lines of one total more
-lines-next : (ts : List ℕ) (i : ℕ) → i < length ts → (b : Bool) → eqb (getD ts i 0) 0 ≡ b → totalLines 0 (take i ts) ++ cond b [] (totalLine i (getD ts i 0)) ≡ totalLines 0 (take (i + 1) ts)
+lines-next :
+    (ts : List ℕ) (i : ℕ) → i < length ts → (b : Bool) → eqb (getD ts i 0) 0 ≡ b →
+    totalLines 0 (take i ts) ++ cond b [] (totalLine i (getD ts i 0)) ≡ totalLines 0 (take (i + 1) ts)
 unfolding totalLines
 lines-next ts i h b e =
     let t = getD ts i 0 in
@@ -68,8 +70,8 @@ pub total-fits :
 total-fits {l} {ts} {m} {k} {i} a h few room f = omega (arith, a .short, a .long, total-short i (getD ts i 0) (omega arith) f)
 
 pub total-put :
-    {l ts m : List ℕ} {k i : ℕ} {n : List ℕ} {j : ℕ} → TotalsWritten l ts m k i → i < length ts → length ts ≤ 1024 → 26 * length ts ≤ length l → getD ts i 0 < 2 ^ 64 →
-    (getD ts i 0 ≡ 0 → ⊥) → Written m k (totalLine i (getD ts i 0)) n j → TotalsWritten l ts n j (i + 1)
+    {l ts m : List ℕ} {k i : ℕ} {n : List ℕ} {j : ℕ} → TotalsWritten l ts m k i → i < length ts → length ts ≤ 1024 → 26 * length ts ≤ length l →
+    getD ts i 0 < 2 ^ 64 → (getD ts i 0 ≡ 0 → ⊥) → Written m k (totalLine i (getD ts i 0)) n j → TotalsWritten l ts n j (i + 1)
 total-put {l} {ts} {m} {k} {i} {n} {j} a h few room f e w =
     let t = totalLine i (getD ts i 0) in
     let z = total-fits a h few room f in

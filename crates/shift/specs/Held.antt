@@ -4,15 +4,15 @@ use mathlib.Core.Path.{_≡_, refl, sym, ap, subst, _∙_}
 use mathlib.Core.Bool.{true, false}
 use mathlib.Core.List.{List, _++_, map}
 use lib.IntN.{ℤ}
-use lib.ListN.{length, take, length-append}
-use lib.Seq.{length-take-le}
+use lib.ListN.{length, take}
 use Rattle.libc.specs.Io.{Moved}
 use Rattle.io.specs.Counts.{clamped}
 use Rattle.definition.specs.Listing.{listing}
 use Rattle.graph_laws.specs.Bools.{and-left, and-right}
 use Rattle.shift_laws.specs.Ended.{endedBales, openBale}
 use Rattle.streams.specs.Reads.{readCall}
-use Rattle.streams.specs.Input.{Came, never, isReading, phaseAfter, afterRead, bytes-after, phase-is, toRead, few-while-reading, came-more, less-to-read}
+use Rattle.streams.specs.Input.{Came, never, isReading, phaseAfter, afterRead, toRead}
+use Rattle.streams.specs.Input.{bytes-after, length-after, phase-is, few-while-reading, came-more, less-to-read}
 use Rattle.streams.specs.Writes.{HandedInOrder}
 use Rattle.streams.specs.declared.input.Phase.{Phase}
 use Rattle.shift.specs.declared.input.Shift.{Shift}
@@ -26,17 +26,11 @@ module _ (x : Came) (got : ℤ) (buffer : List ℕ) (n : ℕ) (counted : n ≡ c
   abbrev next : Came
   next = afterRead never (readCall got buffer) (x .bytes)
 
-  longer : length (next .bytes) ≡ length (x .bytes) + n
-  longer =
-      sym (ap length (bytes-after never got buffer (x .bytes) n counted))
-      ∙ length-append (x .bytes) (take n buffer)
-      ∙ ap (λ (m : ℕ). length (x .bytes) + m) (length-take-le n buffer within)
-
   pub held-read :
       (t u : Shift) (ms ps ns qs : List ℕ) → HoldsShift x t ms ps → t .written ≡ true → WentOver (openBale (x .bytes) ++ take n buffer) (wentOf u) ns qs →
       u .bytes ≡ t .bytes + n → u .phase ≡ phaseAfter got n (u .bytes) false → HoldsShift next u ns qs
   held-read t u ms ps ns qs h e w b p =
-      let c : u .bytes ≡ length (next .bytes) = b ∙ ap (λ (m : ℕ). m + n) (h .counted) ∙ sym longer in
+      let c : u .bytes ≡ length (next .bytes) = b ∙ ap (λ (m : ℕ). m + n) (h .counted) ∙ sym (length-after never got buffer (x .bytes) n counted within) in
       let all = went-more (x .bytes) (take n buffer) (wentOf t) (wentOf u) ms ps ns qs (h .over) e w in
       record {
         phase = p ∙ phase-is never got buffer (x .bytes) n counted within (u .bytes) false c refl;

@@ -1,5 +1,5 @@
 -- What a program takes of its input, read by read.
-use Prim.Native.Nat.{ℕ, zero, suc, _-_, _≤_, _<_}
+use Prim.Native.Nat.{ℕ, zero, suc, _+_, _-_, _≤_, _<_}
 use native.Mathlib.Omega.{arith}
 use mathlib.Core.Path.{_≡_, refl, sym, ap, subst, _∙_}
 use mathlib.Core.Bool.{Bool, true, false, cond, true≢false}
@@ -98,6 +98,9 @@ module _ (enough : List ℕ → Bool) (got : ℤ) (buffer bs : List ℕ) (n : �
 
   pub bytes-after : bs ++ take n buffer ≡ after .bytes
   bytes-after = ap (λ (m : ℕ). bs ++ take m buffer) counted
+
+  pub length-after : n ≤ length buffer → length (after .bytes) ≡ length bs + n
+  length-after l = sym (ap length bytes-after) ∙ length-append bs (take n buffer) ∙ ap (λ (m : ℕ). length bs + m) (length-take-le n buffer l)
 
   pub phase-is : n ≤ length buffer → (b : ℕ) (e : Bool) → b ≡ length (after .bytes) → e ≡ enough (after .bytes) → phaseAfter got n b e ≡ after .phase
   phase-is l b e h g =

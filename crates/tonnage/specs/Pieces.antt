@@ -13,8 +13,8 @@ use Rattle.tonnage_laws.specs.Shifts.{ended-by, still-open}
 use Rattle.bale_answer.specs.declared.input.Input.{Input}
 use Rattle.bale_answer.specs.Open.{OpenIn, TookTo, none-open}
 use Rattle.bale_answer.specs.Taken.{TakenIn}
-use Rattle.tonnage.specs.declared.shift.Weighing.{Weighing}
-use Rattle.tonnage.specs.declared.shift.Went.{Went}
+use Rattle.tonnage.specs.declared.pieces.Weighing.{Weighing}
+use Rattle.tonnage.specs.declared.pieces.Went.{Went}
 use Rattle.tonnage.specs.declared.tally.Tally.{Tally}
 use Rattle.tonnage.specs.Standings.{isWaiting, HoldsTally}
 use Rattle.tonnage.specs.Tallies.{settled-more}
@@ -76,7 +76,7 @@ module _ (csv bs : List ℕ) (w : Weighing) (ms ps sums : List ℕ) (h : Weighs 
     module _ (took : TookTo true (openBale bs) piece n i ns qs) (t : Tally) (us : List ℕ) (j : Input) where
       pub ended-to : HoldsTally csv (endedBales bs ++ (openBale bs ++ take n piece) ∷ []) t us → OpenIn [] j ns qs → WeighedTo csv bs piece (wentTo (weighingOf t j) n) ns qs us
       ended-to g o =
-          let e = ended-by bs (take n piece) (took .2 ) in
+          let e = ended-by bs (take n piece) (took .2) in
           record {
             within = took .1;
             some = λ k. took .0;

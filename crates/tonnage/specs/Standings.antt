@@ -1,18 +1,13 @@
 -- What a tally says of the lines and of the bales that have ended.
-use Prim.Native.Nat.{ℕ, suc, _+_, _*_, _^_, _≤_, _<_}
-use native.Mathlib.Omega.{arith}
-use mathlib.Core.Path.{_≡_, refl, sym, ap, _∙_, subst}
+use Prim.Native.Nat.{ℕ, _*_, _≤_}
+use mathlib.Core.Path.{_≡_}
 use mathlib.Core.Bool.{Bool, true, false}
-use mathlib.Core.Option.{none, some}
-use mathlib.Core.List.{List, [], _∷_, _++_, append-assoc}
-use lib.ListN.{length, getD, replicate, length-append, length-replicate}
-use Rattle.definition.specs.Answer.{PartAnswer}
-use Rattle.definition.specs.FileAnswer.{fileAnswer}
-use Rattle.definition.specs.Shift.{bales}
-use Rattle.definition.specs.Tonnage.{linesOf, addEach, gramsIn, Answers, Weighing, weighed, refusedAt, weighingFrom, weighing, answerAmong, tonnage}
+use mathlib.Core.List.{List, _++_}
+use lib.ListN.{length, getD}
+use Rattle.definition.specs.Tonnage.{Weighing, weighed, refusedAt, weighing, answerAmong}
 use Rattle.weights.specs.Reading.{GoodAt, LineAt}
 use Rattle.weights.specs.declared.Row.the-variants as row
-use Rattle.tonnage.specs.Steps.{weighingAt, at-end, at-malformed, at-unanswered, at-good}
+use Rattle.tonnage.specs.Steps.{weighingAt}
 use Rattle.tonnage.specs.declared.tally.Standing.{Standing}
 use Rattle.tonnage.specs.declared.tally.Standing.the-variants.{Waiting, Weighed, Refused}
 use Rattle.tonnage.specs.declared.tally.Tally.{Tally}

@@ -1,5 +1,5 @@
 -- How a tally goes on: from the first line, and with each bale that ends.
-use Prim.Native.Nat.{ℕ, zero, suc, _+_, _*_, _^_, _≤_, _<_}
+use Prim.Native.Nat.{ℕ, zero, suc, _+_, _*_, _≤_, _<_}
 use native.Mathlib.Decide.{decLt}
 use native.Mathlib.Omega.{arith}
 use mathlib.Core.Path.{_≡_, refl, sym, ap, _∙_, subst}
@@ -19,7 +19,7 @@ use Rattle.tonnage_laws.specs.Answers.{grams-of-bales}
 use Rattle.tonnage_laws.specs.Shifts.{among-ended, last-unanswered}
 use Rattle.shares.specs.Adding.{Low}
 use Rattle.tonnage.specs.Steps.{weighingAt, at-end, at-malformed, at-unanswered, at-good}
-use Rattle.tonnage.specs.Standings.{isWaiting, StandsAt, Upto, Waits, Decided, Stands, HoldsTally}
+use Rattle.tonnage.specs.Standings.{isWaiting, StandsAt, Upto, Waits, Decided, Stands}
 use Rattle.tonnage.specs.declared.tally.Standing.{Standing}
 use Rattle.tonnage.specs.declared.tally.Standing.the-variants.{Waiting, Weighed, Refused}
 
@@ -61,9 +61,9 @@ module _ (csv : List ℕ) (es fs : List (List ℕ)) where
       record {
         same = λ qs.
             subst
-                (λ (l : List (List ℕ)). weighing (answerAmong l) csv ≡ weighingAt (answerAmong l) csv at lines next sums)
-                (sym (append-assoc es fs qs))
-                (u .same (fs ++ qs));
+            (λ (l : List (List ℕ)). weighing (answerAmong l) csv ≡ weighingAt (answerAmong l) csv at lines next sums)
+            (sym (append-assoc es fs qs))
+            (u .same (fs ++ qs));
         few = u .few;
         long = u .long;
         low = u .low;

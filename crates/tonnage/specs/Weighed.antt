@@ -6,8 +6,8 @@ use mathlib.Core.List.{List, _++_}
 use lib.ListN.{length, take}
 use Rattle.theorems.specs.Facts.{endedBales, openBale}
 use Rattle.bale_answer.specs.Open.{OpenIn}
-use Rattle.tonnage.specs.declared.shift.Weighing.{Weighing}
-use Rattle.tonnage.specs.declared.shift.Went.{Went}
+use Rattle.tonnage.specs.declared.pieces.Weighing.{Weighing}
+use Rattle.tonnage.specs.declared.pieces.Went.{Went}
 use Rattle.tonnage.specs.Standings.{isWaiting, HoldsTally}
 
 -- The ended bales were weighed, and as long as a line waits the bytes of the one that has not ended are held.

@@ -6,11 +6,12 @@ ghost use Rattle.definition.specs.Call.{overwrite};
 ghost use Rattle.definition.specs.Tonnage.{tonnageByGrade};
 ghost use Rattle.tonnage.specs.Reply.{Replies};
 
-mod shift;
+mod pieces;
 mod tally;
 
-pub use shift::Weighing;
-pub use shift::weigh_piece;
+use crate::pieces::weigh_shift;
+pub use pieces::Weighing;
+pub use pieces::weigh_piece;
 pub use tally::Outcome;
 pub use tally::Standing;
 pub use tally::Tally;
@@ -53,7 +54,7 @@ pub extern "C" fn tonnage_by_grade(csv: &[u8], shift: &[u8], totals: &mut [u64])
         };
     }
     let mut sums = [0; GRADES];
-    match shift::weigh_shift(csv, shift, &mut sums) {
+    match weigh_shift(csv, shift, &mut sums) {
         Outcome::Weighed(lines) => {
             set_totals(&sums, totals);
             Reply {

@@ -4,7 +4,7 @@ use native.Mathlib.Omega.{arith}
 use mathlib.Core.Path.{_≡_, refl, sym, ap, _∙_}
 use mathlib.Core.Bool.{Bool, true, false}
 use mathlib.Core.Option.{Option, none, some}
-use mathlib.Core.List.{List, [], _∷_, _++_, append-assoc, append-nil, cons≢nil, map}
+use mathlib.Core.List.{List, [], _∷_, _++_, append-nil, cons≢nil, map}
 use lib.Dec.{eqb}
 use lib.ListN.{length, getD}
 use borrow.Author.Tests.{eqb-false}
@@ -24,13 +24,6 @@ use Rattle.tonnage_laws.specs.Answers.{bale-answered}
 module _ (bs y : List ℕ) where
   abbrev held : List ℕ
   held = openBale bs ++ y
-
-  pub bales-more : bales (bs ++ y) ≡ endedBales bs ++ bales (openBale bs ++ y)
-  bales-more =
-      bales-split (bs ++ y)
-      ∙ (λ i. ended-more bs y i ++ lastBale (open-more bs y i))
-      ∙ append-assoc (endedBales bs) (endedBales held) (lastBale (openBale held))
-      ∙ ap (λ (ps : List (List ℕ)). endedBales bs ++ ps) (sym (bales-split held))
 
   -- they end the open bale, or they do not
   pub ended-by : EndedBale (openBale bs ++ y) → (endedBales (bs ++ y) ≡ endedBales bs ++ (openBale bs ++ y) ∷ []) × (openBale (bs ++ y) ≡ [])

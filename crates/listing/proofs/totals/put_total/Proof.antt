@@ -17,16 +17,15 @@ put-number-requires : tie.Need-put-number-requires
 put-number-requires c κs = field-fits (start (c .before .before))
 
 put-number-requires-2 : tie.Need-put-number-requires-2
-put-number-requires-2 c κs = field-fits (next-field (start (c .before .before .before .before .before .before)) (c .before .before .before .put-number .ensures))
+put-number-requires-2 c κs = let s = c .before .before .before .before .before .before in field-fits (next-field (start s) (c .before .before .before .put-number .ensures))
 
 same-length : tie.Need-same-length
 same-length c = search needs
 
 returns : tie.Need-returns
 returns c =
-    last-field
-    (next-field (start (c .before .before .before .before .before .before .before .before .before)) (c .before .before .before .before .before .before .put-number .ensures))
-    (c .before .before .put-number2 .ensures)
+    let n = c .before .before .before .before .before .before in
+    last-field (next-field (start (n .before .before .before)) (n .put-number .ensures)) (c .before .before .put-number2 .ensures)
 
 pub put-total-spec : {M : Type 1} → statement M
 put-total-spec = tie.close (tie.spec put-number-requires put-number-requires-2 same-length returns)

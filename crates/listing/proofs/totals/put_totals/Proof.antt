@@ -43,9 +43,9 @@ loop-again c =
     let a = k .before .before .before .before .before in (
       omega arith,
       ⊎-elim
-      (λ w. rw (w .5, w .6) (total-put (l .inv .1) h (a .pre .0) (a .pre .1) (k .shared-slice-known2 .given (l .i) .fits) (w .0 .taken) (w .2 .ensures)))
-      (λ w. rw (w .1, w .2) (total-skipped (l .inv .1) h (w .0 .left)))
-      (c .if1 .came),
+          (λ w. rw (w .5, w .6) (total-put (l .inv .1) h (a .pre .0) (a .pre .1) (k .shared-slice-known2 .given (l .i) .fits) (w .0 .taken) (w .2 .ensures)))
+          (λ w. rw (w .1, w .2) (total-skipped (l .inv .1) h (w .0 .left)))
+          (c .if1 .came),
     )
 
 same-length : tie.Need-same-length Inv-loop μ-loop

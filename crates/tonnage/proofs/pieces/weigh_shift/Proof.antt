@@ -1,4 +1,4 @@
--- `shift::weigh_shift` meets its contract.
+-- `pieces::weigh_shift` meets its contract.
 use Prim.Native.Nat.{_+_, _^_, _<_}
 use native.Mathlib.Omega.{arith}
 use mathlib.Core.Path.{refl}
@@ -6,8 +6,8 @@ use mathlib.Core.List.{[]}
 use lib.ListN.{length}
 use borrow.Author.Needs.{needs}
 use Rattle.tonnage.specs.Pieces.{weighs-none}
-use Rattle.tonnage.proofs.shift.weigh_shift.Statement.{statement}
-use Rattle.tonnage.proofs.shift.weigh_shift.Tie as tie
+use Rattle.tonnage.proofs.pieces.weigh_shift.Statement.{statement}
+use Rattle.tonnage.proofs.pieces.weigh_shift.Tie as tie
 
 begin-requires : tie.Need-begin-requires
 begin-requires c κs = search needs

@@ -1,4 +1,4 @@
--- `shift::weigh_piece` meets its contract.
+-- `pieces::weigh_piece` meets its contract.
 use Prim.Native.Nat.{ℕ, _+_, _-_, _≤_, _<_}
 use native.Mathlib.Omega.{arith}
 use mathlib.Core.List.{List, _++_, append-nil}
@@ -6,8 +6,8 @@ use mathlib.Core.Path.{_≡_, sym, _∙_}
 use lib.ListN.{length, take}
 use Rattle.tonnage.specs.Weighed.{Weighs, WeighedTo}
 use Rattle.tonnage.specs.Pieces.{behind, piece-next, piece-within, piece-less, piece-all, piece-few}
-use Rattle.tonnage.proofs.shift.weigh_piece.Statement.{statement}
-use Rattle.tonnage.proofs.shift.weigh_piece.Tie as tie
+use Rattle.tonnage.proofs.pieces.weigh_piece.Statement.{statement}
+use Rattle.tonnage.proofs.pieces.weigh_piece.Tie as tie
 
 abbrev Inv-loop : tie.InvT-loop
 Inv-loop csv piece markers₀ pairs₀ work-floats₀ work-numbers₀ sums₀ held₀ at₀ markers pairs work-floats work-numbers sums held at =

@@ -1,4 +1,4 @@
--- `shift::weigh_next` meets its contract.
+-- `pieces::weigh_next` meets its contract.
 use native.Mathlib.Omega.{arith}
 use mathlib.Core.Path.{sym, _∙_}
 use borrow.Author.Needs.{needs}
@@ -6,8 +6,8 @@ use borrow.Author.Tests.{not-true, not-false}
 use Rattle.theorems.specs.Facts.{endedBales, openBale, open-short}
 use Rattle.bale_answer.specs.Open.{none-open}
 use Rattle.tonnage.specs.Pieces.{took-as, settled-to, open-to, ended-to}
-use Rattle.tonnage.proofs.shift.weigh_next.Statement.{statement}
-use Rattle.tonnage.proofs.shift.weigh_next.Tie as tie
+use Rattle.tonnage.proofs.pieces.weigh_next.Statement.{statement}
+use Rattle.tonnage.proofs.pieces.weigh_next.Tie as tie
 
 is-waiting-requires : tie.Need-is-waiting-requires
 is-waiting-requires c κs = search needs
