@@ -11,7 +11,7 @@ ghost use Rattle.array_utils.specs.LnLaws.{bits_of};
 pub(crate) const LN_2: f32 = 0.6931471805599453;
 
 // The exponent, the upper digits of the mantissa, which index the table, and the lower ones.
-#[derive(Drop)]
+#[derive(Clone, Copy)]
 pub(crate) struct FloatBits {
     pub exponent: u32,
     pub index: u32,

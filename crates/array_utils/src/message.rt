@@ -14,7 +14,7 @@ const BLOCK_SIZE: usize = 10;
 
 const BLOCK_FLOATS: usize = 2 * BLOCK_SIZE;
 
-#[derive(Drop)]
+#[derive(Clone, Copy)]
 pub struct VariableMessage {
     pub absent: f32,
     pub present: f32,

@@ -10,7 +10,7 @@ ghost use Rattle.bale.specs.Taking.{HoldsInput, SomeHeld};
 use bale_answer::Input;
 use streams::{Phase, is_reading};
 
-#[derive(Drop)]
+#[derive(Clone, Copy)]
 pub struct Taking {
     pub input: Input,
     pub phase: Phase,

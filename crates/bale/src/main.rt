@@ -6,6 +6,7 @@
 // of the bytes that came, and whether all of it was handed over follows from what `write` answered (`write_listing`). No contract of the kit says which
 // bytes a call of C moves. So it is to be seen, and is run by the tests, that `read_input` reads standard input and hands the answer on, that
 // `write_listing` writes to standard output, and which line goes to standard error.
+#![tactic(auto)]
 ghost use Rattle.std.specs.Prelude.{◌≡◌, length};
 ghost use Rattle.bale.specs.Taking.{SomeHeld, ReadBy, ListingHanded};
 

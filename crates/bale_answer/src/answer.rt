@@ -13,7 +13,7 @@ use bale_file::Decoder;
 use zero_lookahead_belief_propagation::Outcome;
 
 // A refusal's number and place, or how many beliefs and endings there are.
-#[derive(Drop)]
+#[derive(Clone, Copy)]
 pub enum FileOutcome {
     Refused(u32, u64),
     Answered(u32, u32),

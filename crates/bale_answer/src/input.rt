@@ -7,7 +7,7 @@ ghost use Rattle.bale_answer.specs.Open.{OpenIn, SomeOpenIn, TookTo};
 
 use bale_file::Decoder;
 
-#[derive(Drop)]
+#[derive(Clone, Copy)]
 pub struct Input {
     pub decoder: Decoder,
     // How many bytes were taken in.
@@ -38,7 +38,7 @@ pub fn take_piece(input: Input, piece: &[u8], markers: &mut [u32], pairs: &mut [
 }
 
 // What was taken in of a piece, how many of its bytes, and whether they end in an end word.
-#[derive(Drop)]
+#[derive(Clone, Copy)]
 pub struct TakenBale {
     pub input: Input,
     pub used: usize,

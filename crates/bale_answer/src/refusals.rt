@@ -24,7 +24,7 @@ fn is_too_many(grades: u32, markers: u32, pairs: u32) -> bool
 }
 
 // A refusal's number and place, or none.
-#[derive(Drop)]
+#[derive(Clone, Copy)]
 pub enum Check {
     Refused(u32, u64),
     Passed,

@@ -7,7 +7,7 @@ ghost use Rattle.bale_file.specs.Decoder.{started, fed_of, fed_byte, fed, ends_b
 use crate::reading::{Reading, read_word};
 use crate::word::{kind_of, word_of};
 
-#[derive(Drop)]
+#[derive(Clone, Copy)]
 pub struct Decoder {
     pub reading: Reading,
     // How many bytes of the next word are there, and these.
@@ -18,7 +18,7 @@ pub struct Decoder {
 }
 
 // What was fed of a range that may go on behind the end of a bale: how many bytes, and whether they end in an end word.
-#[derive(Drop)]
+#[derive(Clone, Copy)]
 pub struct FedBale {
     pub decoder: Decoder,
     pub used: usize,
@@ -26,7 +26,7 @@ pub struct FedBale {
 }
 
 // The place of number 9, if the file has one.
-#[derive(Drop)]
+#[derive(Clone, Copy)]
 pub enum File {
     Bad(u64),
     Good,

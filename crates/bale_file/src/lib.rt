@@ -1,4 +1,5 @@
 // The bale file, decoded from bytes that come in pieces of any size. Other crates see what `pub use` names, and nothing else.
+#![tactic(auto)]
 mod bale;
 mod decoder;
 mod fields;

@@ -9,7 +9,7 @@ const MOST_WORDS: u32 = 4294967295;
 
 const LAST_PLACE: u64 = 18446744073709551615;
 
-#[derive(Drop)]
+#[derive(Clone, Copy)]
 pub struct Reading {
     // How many good words there are, which is the place of the next one; once a word is bad, its place.
     pub place: u64,

@@ -1,4 +1,5 @@
 // The listing of a bale, and of bales that follow one another, in a lent buffer.
+#![tactic(auto)]
 mod bale;
 mod next;
 

@@ -10,7 +10,7 @@ use bale_answer::{Input, begin, take_bale};
 
 // What is taken in of the bale that comes next, how many bytes of the piece were used, and how long the listing is of the bale that they ended: 0 if
 // they ended none.
-#[derive(Drop)]
+#[derive(Clone, Copy)]
 pub struct Listed {
     pub input: Input,
     pub used: usize,

@@ -9,7 +9,7 @@ use checks::{Buffers, Verdict};
 use components::graph::build_components;
 
 #[repr(C)]
-#[derive(Drop)]
+#[derive(Clone, Copy)]
 pub struct Reply {
     pub number: u32,
     pub place: u32,

@@ -1,4 +1,5 @@
 // The refusals 1 to 8: the number and the place of the first check that fails. Nothing that is lent is written.
+#![tactic(auto)]
 ghost use Rattle.std.specs.Prelude.{◌≡◌, false, [], ◌∷◌, map, ℕ, ◌+◌, ◌^◌, ◌/◌, ◌≤◌, ◌<◌, eqb, ltb, length, get_or, replicate};
 ghost use Rattle.definition.specs.FactorGraph.{marker_numbers, grades_of};
 ghost use Rattle.definition.specs.Refusals.{markers_of, pairs_of, bale_of, outside, least_probability, greatest_probability, too_many, too_small, bad_tolerance, bad_evidence, unknown_pair, lowest_place, repeated_pairs, too_many_grades, verdict};
@@ -8,21 +9,21 @@ ghost use Rattle.checks.specs.Verdicts.{place_of, verdict_of, buffers_of, graph_
 ghost use Rattle.checks.specs.Marks.{digit, InGrid, cell_of};
 ghost use Rattle.checks.specs.Slices.{pair_at};
 
-#[derive(Drop)]
+#[derive(Clone, Copy)]
 pub enum Verdict {
     Accepted,
     Refused(u32, u32),
 }
 
 // The lowest place at which a test is true: where a check fails, or what a search finds.
-#[derive(Drop)]
+#[derive(Clone, Copy)]
 pub enum Place {
     Nowhere,
     At(u32),
 }
 
 // How many entries each buffer has that the caller lends.
-#[derive(Drop)]
+#[derive(Clone, Copy)]
 pub struct Buffers {
     pub work_floats: usize,
     pub work_numbers: usize,

@@ -10,7 +10,7 @@ ghost use Rattle.components.specs.ComponentAll.{Finding, all_of, all_from};
 ghost use Rattle.components.specs.ComponentStep.{Stepping, component_at, next_free};
 
 // How many nodes were met in this component, and how many of them are on the stack.
-#[derive(Drop)]
+#[derive(Clone, Copy)]
 pub struct Met {
     pub count: usize,
     pub top: usize,
@@ -142,7 +142,7 @@ pub fn component(words: &mut [u32], n: usize, e: usize, s: usize, at: usize, v: 
 }
 
 // How many components there are, and where the last record ends.
-#[derive(Drop)]
+#[derive(Clone, Copy)]
 pub struct Found {
     pub count: usize,
     pub end: usize,

@@ -1,3 +1,4 @@
+#![tactic(auto)]
 pub mod components;
 pub mod graph;
 pub mod records;

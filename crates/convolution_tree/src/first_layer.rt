@@ -13,7 +13,7 @@ use array_utils::VariableMessage;
 const DUMMY: [f32; 2] = [1.0, 0.0];
 
 // The layers above the leaves, and the leaves: the least power of two that is at least the number of grades.
-#[derive(Drop)]
+#[derive(Clone, Copy)]
 pub(crate) struct Size {
     pub layers: usize,
     pub leaves: usize,

@@ -10,7 +10,7 @@ use streams::{Phase, is_reading, phase_after};
 // With so many bytes no further one counts: 10,000 good lines have at most 100,000, and 11 more are a line that is too long.
 const ENOUGH: usize = 100011;
 
-#[derive(Drop)]
+#[derive(Clone, Copy)]
 pub struct Csv {
     // How many bytes came.
     pub len: usize,

@@ -8,7 +8,7 @@ ghost use Rattle.depot.specs.Depots.{HoldsDepot, SomeDepot, SomeGoing, is_going,
 use streams::{Phase, is_reading, phase_after};
 use tonnage::{Outcome, Weighing};
 
-#[derive(Drop)]
+#[derive(Clone, Copy)]
 pub struct Depot {
     pub weighing: Weighing,
     // How many bytes came, of all bales.

@@ -3,6 +3,7 @@
 // bytes end it with a line on standard error and nothing printed, a write that fails with such a line.
 //
 // What is proved and what is only run is as in `bale` and `shift`: whatever is decided is decided in functions that are handed what the calls of C answered.
+#![tactic(auto)]
 ghost use Rattle.std.specs.Prelude.{◌≡◌, length, replicate};
 ghost use Rattle.depot.specs.Lines.{LinesReadBy};
 ghost use Rattle.depot.specs.Depots.{ReadBy, SomeDepot, OutcomeHanded};

@@ -11,7 +11,7 @@ ghost use Rattle.draws.specs.Present.{Known, NoneCounted, PresentCounted, count_
 use crate::number::{Drawn, draw};
 
 // Alpha, beta and prior in 1,024ths.
-#[derive(Drop)]
+#[derive(Clone, Copy)]
 pub struct TrialSetting {
     pub alpha: u32,
     pub beta: u32,

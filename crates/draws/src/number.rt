@@ -5,7 +5,7 @@ ghost use Rattle.definition.specs.Trials.{next_number};
 ghost use Rattle.draws.specs.Model.{drawn_of};
 
 // Whether a draw succeeded, and the number that it took.
-#[derive(Drop)]
+#[derive(Clone, Copy)]
 pub(crate) struct Drawn {
     pub success: bool,
     pub state: u32,

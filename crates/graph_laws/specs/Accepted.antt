@@ -17,14 +17,14 @@ use Rattle.graph_laws.specs.AloneChecks.{eq_pair_sound, eq_pair-same, fewer_grad
 
 -- ---- the lowest place: there is none where no test is true
 
-abbrev is_none : Option ℕ → Type 0
-is_none none = Unit {0}
-is_none (some n) = ⊥
+abbrev IsNothing : Option ℕ → Type 0
+IsNothing none = Unit {0}
+IsNothing (some n) = ⊥
 
 pub no_place : (i : ℕ) (bs : List Bool) → lowest_place_from i bs ≡ none → All (λ c. c ≡ false) bs
 unfolding lowest_place_from
 no_place i [] h = tt
-no_place i (true ∷ bs) h = absurd (subst is_none (sym h) tt)
+no_place i (true ∷ bs) h = absurd (subst IsNothing (sym h) tt)
 no_place i (false ∷ bs) h = (refl, no_place (suc i) bs h)
 
 pub nowhere : (i : ℕ) (bs : List Bool) → All (λ c. c ≡ false) bs → lowest_place_from i bs ≡ none

@@ -35,9 +35,9 @@ use Rattle.claims.specs.Claims.{relabel_belief, relabel_answer, Alike}
 
 -- ---- options and lists
 
-abbrev is_some : {A : Type 0} → Option A → Type 0
-is_some none = ⊥
-is_some (some x) = Unit {0}
+abbrev IsThere : {A : Type 0} → Option A → Type 0
+IsThere none = ⊥
+IsThere (some x) = Unit {0}
 
 abbrev or_else : {A : Type 0} → A → Option A → A
 or_else d none = d
@@ -177,7 +177,7 @@ module _ (s : Settings) (b : Bale) where
 
   of_number : (k i : ℕ) (ps : List (List Node)) (p : List Node) → get_elem? ps i ≡ some p → filter (Numbered (k + i)) (answers_from s b k ps) ≡ answers_of s b (k + i) p
   unfolding answers_from
-  of_number k i [] p h = absurd (subst is_some (sym h) tt)
+  of_number k i [] p h = absurd (subst IsThere (sym h) tt)
   of_number k zero (x ∷ ps) p h =
       filter_append (Numbered (k + 0)) (answers_of s b k x) (answers_from s b (suc k) ps)
       ∙ rw (

@@ -93,7 +93,7 @@ more_small : (a : Float) (m o : Message) → Small largest_residual a → Small 
 unfolding vector_residual
 more_small a [] o h = h
 more_small a (x ∷ m) [] h = h
-more_small a (x ∷ m) (y ∷ o) h = more_small _ m o (max_small largest_residual a (abs_log_ratio x y) h (ratio_small x y))
+more_small a (x ∷ m) (y ∷ o) h = more_small (maxᶠ a (abs_log_ratio x y)) m o (max_small largest_residual a (abs_log_ratio x y) h (ratio_small x y))
 
 -- any finite value is larger than the infinity that it starts from
 first_one : (y : Float) → T (finite y) → maxᶠ (inf true) y ≡ y

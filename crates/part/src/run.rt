@@ -23,14 +23,14 @@ use zero_lookahead::sweep::sweep;
 use zero_lookahead::words::word;
 
 // How a part ends, with the last residual.
-#[derive(Drop)]
+#[derive(Clone, Copy)]
 pub enum Ending {
     Limit(f32),
     Settled(f32),
     Empty,
 }
 
-#[derive(Drop)]
+#[derive(Clone, Copy)]
 pub struct Ended {
     pub ending: Ending,
     pub steps: u32,

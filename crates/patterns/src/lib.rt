@@ -1,4 +1,5 @@
 // All read patterns of a small graph: each is run, and what it says of each grade is counted.
+#![tactic(auto)]
 mod call;
 mod pattern;
 mod tally;

@@ -11,7 +11,7 @@ use reads::ReportOutcome;
 
 // How many grades are reported; or the refusal's number and place.
 #[repr(C)]
-#[derive(Drop)]
+#[derive(Clone, Copy)]
 pub struct Patterns {
     pub refusal: u32,
     pub place: u32,

@@ -1,4 +1,5 @@
 // The library as programs in C and Rust link it: include/pikaplatinum.h declares these functions. A slice is a pointer and a length there.
+#![tactic(auto)]
 ghost use Rattle.std.specs.Prelude.{◌≡◌};
 ghost use Rattle.definition.specs.Call.{call};
 ghost use Rattle.claims.specs.CallByParts.{AnsweredByParts};
@@ -19,7 +20,7 @@ pub use tried_settings::{Trials, pikaplatinum_try_settings};
 
 // An outcome as numbers: refusal 0, and how many beliefs and endings there are; or the refusal's number and place.
 #[repr(C)]
-#[derive(Drop)]
+#[derive(Clone, Copy)]
 pub struct Reply {
     pub refusal: u32,
     pub place: u32,
@@ -90,7 +91,7 @@ pub extern "C" fn pikaplatinum_calibrate_all_subgraphs(
 
 // How long each buffer must be.
 #[repr(C)]
-#[derive(Drop)]
+#[derive(Clone, Copy)]
 pub struct Sizes {
     pub work_floats: u64,
     pub work_numbers: u64,

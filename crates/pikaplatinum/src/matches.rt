@@ -7,7 +7,7 @@ use readers::{Answer, match_reads};
 
 // How many matches were written; or the refusal's number and place.
 #[repr(C)]
-#[derive(Drop)]
+#[derive(Clone, Copy)]
 pub struct Matches {
     pub refusal: u32,
     pub place: u32,

@@ -10,7 +10,7 @@ use trials::try_settings;
 
 // How many settings are reported; or the refusal's number and place.
 #[repr(C)]
-#[derive(Drop)]
+#[derive(Clone, Copy)]
 pub struct Trials {
     pub refusal: u32,
     pub place: u32,

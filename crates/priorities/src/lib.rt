@@ -1,5 +1,6 @@
 // The schedule's queue (`priorities` of src/messages.rs) in words that the caller lends: a tournament over w leaves, w a power of two. Leaf i is word w + i,
 // the key of direction i; an inner node holds the larger key of its two children; word 0 is not used.
+#![tactic(auto)]
 ghost use Rattle.std.specs.Prelude.{◌≡◌, List, ℕ, ◌+◌, ◌*◌, ◌^◌, ◌≤◌, ◌<◌, max, T, length, set, drop};
 ghost use Rattle.std.proofs.Math.Option.{some};
 ghost use Rattle.definition.specs.Priorities.{highest_priority};
@@ -11,7 +12,7 @@ ghost use Rattle.priorities.specs.Descent.{FirstLargest};
 ghost use Rattle.priorities.specs.Answer.{highest_of};
 
 // The direction that waits with the largest amount, the least such direction, and that amount.
-#[derive(Drop)]
+#[derive(Clone, Copy)]
 pub enum Top {
     Empty,
     At(u32, f32),

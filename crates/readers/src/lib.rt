@@ -1,4 +1,5 @@
 // Two readers over one belt: each upper read in turn is matched with the lowest-indexed unused lower read that it may have.
+#![tactic(auto)]
 ghost use Rattle.std.specs.Prelude.{◌≡◌, ◌+◌, ◌/◌, ◌≤◌, ◌<◌, ltb, length};
 ghost use Rattle.definition.specs.Refusals.{lowest_place, accepted};
 ghost use Rattle.definition.specs.Call.{overwrite};
@@ -12,7 +13,7 @@ ghost use Rattle.readers.specs.Turns.{Turnable, Turned};
 use checks::{Place, Verdict};
 
 // So many matches were written; or the refusal's number and place.
-#[derive(Drop)]
+#[derive(Clone, Copy)]
 pub enum Answer {
     Matches(u32),
     Refused(u32, u32),

@@ -11,14 +11,14 @@ use crate::{Settings, put_reads};
 use checks::{Buffers, Verdict, check};
 
 // How many grades or settings are reported, or a refusal's number and place.
-#[derive(Drop)]
+#[derive(Clone, Copy)]
 pub enum ReportOutcome {
     Reported(u32),
     Refused(u32, u32),
 }
 
 // How many entries each buffer has that the caller lends.
-#[derive(Drop)]
+#[derive(Clone, Copy)]
 pub struct ReportBuffers {
     pub work_floats: usize,
     pub work_numbers: usize,

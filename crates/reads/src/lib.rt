@@ -1,4 +1,5 @@
 // Markers read strongly or weakly: the evidence of such reads, one run of the call under them, and the checks of a call that makes many.
+#![tactic(auto)]
 ghost use Rattle.std.specs.Prelude.{◌≡◌, ◌+◌, ◌*◌, ◌≤◌, ◌<◌, length, take};
 ghost use Rattle.definition.specs.Refusals.{bale_of, accepted, verdict};
 ghost use Rattle.definition.specs.Call.{overwrite};
@@ -13,7 +14,7 @@ mod check;
 pub use check::{ReportBuffers, ReportOutcome, check_weak};
 
 // What every run of a call is given.
-#[derive(Drop)]
+#[derive(Clone, Copy)]
 pub struct Settings {
     pub alpha: f32,
     pub beta: f32,

@@ -5,6 +5,7 @@
 // is another text (`count_entry`); and the two numbers are the counts over some list of at most MOST_FILES entries: how many there are, and how many of
 // them differ (`replay_all`). What is only run: that this list is `stdin`. No contract can say which bytes a read gave, so `read_entry` says only that
 // they fit; that all are read, and each counted, is to be seen in `replay_next` and `replay_all`.
+#![tactic(auto)]
 ghost use Rattle.std.specs.Prelude.{◌≡◌, ◌+◌, ◌*◌, ◌≤◌, ◌<◌, length};
 ghost use Rattle.replay.specs.Same.{same_bytes};
 ghost use Rattle.replay.specs.Entries.{listing_as, whole, differs, one_more, Fits, Replayed, Stepped};
@@ -19,28 +20,28 @@ const MOST_FILES: u64 = 1000000;
 // A length that no entry has.
 const NONE: usize = 4097;
 
-#[derive(Drop)]
+#[derive(Clone, Copy)]
 struct Counts {
     files: u64,
     differ: u64,
 }
 
 // What stands before bytes of the list: their length, or NONE where the list ends, and whether they are a shift.
-#[derive(Drop)]
+#[derive(Clone, Copy)]
 struct Head {
     len: usize,
     shift: bool,
 }
 
 // Whether a file is a shift, its length and that of the text behind it; or the list breaks off, or is over.
-#[derive(Drop)]
+#[derive(Clone, Copy)]
 enum Read {
     Entry(bool, usize, usize),
     Broken,
     End,
 }
 
-#[derive(Drop)]
+#[derive(Clone, Copy)]
 enum Step {
     Counted(Counts),
     Over,

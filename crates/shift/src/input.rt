@@ -6,7 +6,7 @@ ghost use Rattle.shift.specs.Shifts.{HoldsShift, is_going};
 use bale_answer::Input;
 use streams::{Phase, is_reading};
 
-#[derive(Drop)]
+#[derive(Clone, Copy)]
 pub struct Shift {
     // What was taken in of the bale that has not ended.
     pub input: Input,
@@ -18,7 +18,7 @@ pub struct Shift {
 }
 
 // What is left of a piece whose ended bales were listed.
-#[derive(Drop)]
+#[derive(Clone, Copy)]
 pub struct Went {
     pub input: Input,
     pub written: bool,

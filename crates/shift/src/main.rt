@@ -3,6 +3,7 @@
 // over 2^32 bytes end it with a line on standard error, and no listing of the bale that has not ended; so does a write that fails.
 //
 // What is proved and what is only run is as in `bale`: whatever is decided is decided in functions that are handed what the calls of C answered.
+#![tactic(auto)]
 ghost use Rattle.std.specs.Prelude.{◌≡◌, List, ◌++◌, ℕ, ◌+◌, ◌^◌, ◌≤◌, ◌<◌, length};
 ghost use Rattle.bale_answer.specs.Open.{OpenIn, SomeOpenIn};
 ghost use Rattle.streams.specs.Reads.{read_call};

@@ -13,7 +13,7 @@ ghost use Rattle.steps.specs.StepChanged.{changed_from};
 use messages::residual;
 
 // The nodes whose messages the next step copies into the log (`prev_changed`): all, one, or the neighbours of a tree.
-#[derive(Drop)]
+#[derive(Clone, Copy)]
 pub enum Changed {
     All,
     One(u32),

@@ -6,7 +6,7 @@ ghost use Rattle.streams.specs.Input.{is_reading, phase_after};
 const MOST_BYTES: u64 = 4294967296;
 
 // There is more to read, and if not why: all was read that counts, or too much, or a read failed.
-#[derive(Drop)]
+#[derive(Clone, Copy)]
 pub enum Phase {
     Reading,
     Whole,

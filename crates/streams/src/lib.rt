@@ -1,5 +1,6 @@
 // What programs do with the streams that they are given. No contract of the kit says which bytes a call of C moves: these speak of what `read` and `write`
 // answered.
+#![tactic(auto)]
 mod input;
 mod output;
 

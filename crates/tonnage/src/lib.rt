@@ -1,4 +1,5 @@
 // Tonnage by grade, as programs in C and Rust link it: include/tonnage.h declares the function. A slice is a pointer and a length there.
+#![tactic(auto)]
 ghost use Rattle.std.specs.Prelude.{◌≡◌, ◌≤◌, length};
 ghost use Rattle.definition.specs.Call.{overwrite};
 ghost use Rattle.definition.specs.Tonnage.{tonnage_by_grade};
@@ -13,7 +14,7 @@ pub use tally::{Outcome, Standing, Tally, begin, is_waiting, outcome_of};
 
 // Refusal 0, and how many lines were weighed; or the refusal's number, and its line.
 #[repr(C)]
-#[derive(Drop)]
+#[derive(Clone, Copy)]
 pub struct Reply {
     pub refusal: u32,
     pub place: u32,

@@ -8,14 +8,14 @@ use crate::tally::{Outcome, Tally, begin, is_waiting, outcome_of, weigh_bale};
 use bale_answer::{Input, take_bale};
 
 // The tally of the bales that have ended, and what was taken in of the one that has not.
-#[derive(Drop)]
+#[derive(Clone, Copy)]
 pub struct Weighing {
     pub tally: Tally,
     pub input: Input,
 }
 
 // What is weighed with so many bytes more of a piece.
-#[derive(Drop)]
+#[derive(Clone, Copy)]
 pub struct Went {
     pub weighing: Weighing,
     pub used: usize,

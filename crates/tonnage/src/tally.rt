@@ -12,7 +12,7 @@ use bale_file::Decoder;
 use shares::add_bale;
 use weights::{Row, read_line};
 
-#[derive(Drop)]
+#[derive(Clone, Copy)]
 pub enum Standing {
     // The next line's bale and kilograms, and the place behind it.
     Waiting(u32, u32, usize),
@@ -22,7 +22,7 @@ pub enum Standing {
     Refused(u32),
 }
 
-#[derive(Drop)]
+#[derive(Clone, Copy)]
 pub struct Tally {
     pub standing: Standing,
     // How many lines were weighed, which is the number of the next.
@@ -165,7 +165,7 @@ pub(crate) fn weigh_bale(
 }
 
 // So many lines were weighed; or the refusal's number and line.
-#[derive(Drop)]
+#[derive(Clone, Copy)]
 pub enum Outcome {
     Weighed(u32),
     Refused(u32, u32),

@@ -9,7 +9,7 @@ ghost use Rattle.trials.specs.Tally.{Tallied, judged_to};
 use reads::is_above_half;
 
 // So many beliefs that agreed, and so many that did not.
-#[derive(Drop)]
+#[derive(Clone, Copy)]
 pub(crate) struct Tally {
     pub agreed: u32,
     pub differed: u32,

@@ -15,7 +15,7 @@ use draws::{TrialSetting, draw_bale};
 use reads::{Settings, put_reads, run_reads};
 
 // What the bales so far came to, and the number drawn last.
-#[derive(Drop)]
+#[derive(Clone, Copy)]
 pub(crate) struct Trial {
     pub agreed: u32,
     pub differed: u32,

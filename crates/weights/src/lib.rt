@@ -1,24 +1,25 @@
 // The morning's lines, `bale,kilograms`, read one by one from lent bytes.
+#![tactic(auto)]
 ghost use Rattle.std.specs.Prelude.{◌≤◌, ◌≡◌};
 ghost use Rattle.definition.specs.Tonnage.{at_most, next_digit};
 ghost use Rattle.weights.specs.Reading.{so_far, digit_of, NumberAt, LineAt};
 
 // A line's bale, its kilograms, and the place after its line feed; or no line is left.
-#[derive(Drop)]
+#[derive(Clone, Copy)]
 pub enum Row {
     Good(u32, u32, usize),
     Malformed,
     End,
 }
 
-#[derive(Drop)]
+#[derive(Clone, Copy)]
 enum Digit {
     Good(u32),
     Malformed,
 }
 
 // A number, and the place after the byte that ends it.
-#[derive(Drop)]
+#[derive(Clone, Copy)]
 enum Found {
     Number(u32, usize),
     Nothing,

@@ -1,5 +1,5 @@
 // What a run is given, but for its limit.
-#[derive(Drop)]
+#[derive(Clone, Copy)]
 pub struct Settings {
     pub alpha: f32,
     pub beta: f32,

@@ -16,7 +16,7 @@ use part::run::{Ending, run};
 use zero_lookahead::settings::Settings;
 
 // An ending as it is answered.
-#[derive(Drop)]
+#[derive(Clone, Copy)]
 struct EndingWords {
     number: u32,
     residual: f32,
@@ -63,7 +63,7 @@ fn end_part(
 }
 
 // How a part's run ended, and how many beliefs it has.
-#[derive(Drop)]
+#[derive(Clone, Copy)]
 struct PartRun {
     ending: Ending,
     steps: u32,
@@ -99,7 +99,7 @@ fn run_part(
 }
 
 // How many beliefs and endings were written.
-#[derive(Drop)]
+#[derive(Clone, Copy)]
 pub struct Counts {
     pub beliefs: usize,
     pub endings: usize,

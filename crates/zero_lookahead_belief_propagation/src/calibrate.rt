@@ -28,7 +28,7 @@ fn record_len(words: &[u32], at: usize) -> usize
 }
 
 // Where the records of all parts stand, and how many there are.
-#[derive(Drop)]
+#[derive(Clone, Copy)]
 struct Records {
     start: usize,
     count: usize,

@@ -13,7 +13,7 @@ use checks::{Buffers, Verdict};
 use zero_lookahead::settings::Settings;
 
 // How many beliefs and endings there are, or a refusal's number and place.
-#[derive(Drop)]
+#[derive(Clone, Copy)]
 pub enum Outcome {
     Answered(u32, u32),
     Refused(u32, u32),
