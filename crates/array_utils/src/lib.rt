@@ -1,5 +1,6 @@
 // src/array_utils.rs of the Rust, with the stand-ins of document 01. Other crates see what `pub use` names, and nothing else.
 #![tactic(auto)]
+
 mod exponential;
 mod ln;
 mod message;

@@ -1,5 +1,6 @@
 // The refusals 1 to 8: the number and the place of the first check that fails. Nothing that is lent is written.
 #![tactic(auto)]
+
 ghost use Rattle.std.specs.Prelude.{◌≡◌, false, [], ◌∷◌, map, ℕ, ◌+◌, ◌^◌, ◌/◌, ◌≤◌, ◌<◌, eqb, ltb, length, get_or, replicate};
 ghost use Rattle.definition.specs.FactorGraph.{marker_numbers, grades_of};
 ghost use Rattle.definition.specs.Refusals.{markers_of, pairs_of, bale_of, outside, least_probability, greatest_probability, too_many, too_small, bad_tolerance, bad_evidence, unknown_pair, lowest_place, repeated_pairs, too_many_grades, verdict};

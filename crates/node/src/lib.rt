@@ -1,5 +1,6 @@
 // `fill_in_factor` of src/node.rs: the noisy-OR table of a marker, in a row of floats that the caller lends.
 #![tactic(auto)]
+
 ghost use Rattle.std.specs.Prelude.{◌≡◌, max, ◌*◌, ◌≤◌, length};
 ghost use Rattle.definition.specs.NoisyOr.{cpd_rows, cpd_table};
 ghost use Rattle.node.specs.Rows.{flat_rows, given, regularised_of, absent_of, row_total};

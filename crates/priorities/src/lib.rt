@@ -1,6 +1,7 @@
 // The schedule's queue (`priorities` of src/messages.rs) in words that the caller lends: a tournament over w leaves, w a power of two. Leaf i is word w + i,
 // the key of direction i; an inner node holds the larger key of its two children; word 0 is not used.
 #![tactic(auto)]
+
 ghost use Rattle.std.specs.Prelude.{◌≡◌, List, ℕ, ◌+◌, ◌*◌, ◌^◌, ◌≤◌, ◌<◌, max, T, length, set, drop};
 ghost use Rattle.std.proofs.Math.Option.{some};
 ghost use Rattle.definition.specs.Priorities.{highest_priority};
