@@ -1,5 +1,6 @@
 // The bale file, decoded from bytes that come in pieces of any size. Other crates see what `pub use` names, and nothing else.
 #![tactic(auto)]
+
 mod bale;
 mod decoder;
 mod fields;

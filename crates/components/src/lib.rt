@@ -1,4 +1,5 @@
 #![tactic(auto)]
+
 pub mod components;
 pub mod graph;
 pub mod records;

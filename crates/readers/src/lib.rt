@@ -1,5 +1,6 @@
 // Two readers over one belt: each upper read in turn is matched with the lowest-indexed unused lower read that it may have.
 #![tactic(auto)]
+
 ghost use Rattle.std.specs.Prelude.{◌≡◌, ◌+◌, ◌/◌, ◌≤◌, ◌<◌, ltb, length};
 ghost use Rattle.definition.specs.Refusals.{lowest_place, accepted};
 ghost use Rattle.definition.specs.Call.{overwrite};

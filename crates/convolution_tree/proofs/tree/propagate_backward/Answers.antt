@@ -82,14 +82,13 @@ overflow_add-two c =
     let z : two ≤ 130 = omega (arith, q.4, p.2) in
     omega (arith, z)
 
-slice_relend_prefix_likelihoods_below :
-    tie.Need-slice-relend-prefix-likelihoods-below invariant_loop decreases_loop
-slice_relend_prefix_likelihoods_below c =
-    let a = c.before.before.before.before.before.args in
-    let p = c.before.before.before.before.before.requires in
-    let s = c.before.before.loop in
+pub slice_bounds-likelihoods_below-end : goal.slice_bounds-likelihoods_below-end
+slice_bounds-likelihoods_below-end c =
+    let a = c.args in
+    let p = c.requires in
+    let s = c.loop-i in
     let k = s.i - 1 in
-    let e : s.i ≡ suc k = omega (arith, c.before.loop-test.true) in
+    let e : s.i ≡ suc k = omega (arith, c.loop-i-test.true) in
     let d = subst (λ (i : ℕ). Descending a.w.now a.layers a.leaves a.n a.root s.w s.at s.c s.m s.f i) e s.invariant.0 in
     let q = descending_fits a.w.now a.layers a.leaves a.n a.root p.1 p.3 p.4 p.6 s.w s.at s.c s.m s.f k d in
     let two = (s.m + 1) / 2 + (s.m + 1) / 2 in

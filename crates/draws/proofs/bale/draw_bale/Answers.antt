@@ -11,7 +11,7 @@ count_present-requires c =
     (known_more _ _ _ _ _ (omega (arith, e, c.requires.3)) c.requires.1 c.requires.0, none-counted 1024, c.requires.2)
 
 pub returns : goal.returns
-returns c =
+returns c b f =
     let a = c.args in
     let g = c.draw_grades-at.ensures in
     let r = c.draw_reads.ensures in

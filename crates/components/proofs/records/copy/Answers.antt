@@ -1,0 +1,27 @@
+-- `factor_graph::records::copy` meets its contract.
+use mathlib.Core.Path.{◌≡◌, refl}
+use Prim.Native.Nat.{◌-◌}
+use native.Mathlib.Omega.{arith}
+use lib.ListN.{length-set}
+use Rattle.list_laws.specs.Write.{write-none, write-next, kept-below}
+use Rattle.components.proofs.records.copy.Goals as goal
+
+pub loop-i-init : goal.loop-i-init
+loop-i-init c = (omega arith, write-none _ _ _, refl)
+
+pub loop-i-preserved : goal.loop-i-preserved
+loop-i-preserved c =
+    let s = c.loop-i in
+    let a = c.args in (
+      omega arith,
+      write-next _ _ _ _ _ _ s.invariant.1 (kept-below _ _ _ a.to _ _ 0 s.invariant.1 (omega arith)),
+      simp length-set s.invariant.2,
+    )
+
+pub shape_of-words : goal.shape_of-words
+shape_of-words c = c.loop-i.invariant.2
+
+pub returns : goal.returns
+returns c =
+    let e : c.loop-i.i ≡ c.args.n = omega arith in
+    rw e at c.loop-i.invariant.1
