@@ -1,5 +1,6 @@
 // What benchmark/ times and compares, in place in a slice: a leaf of array_utils at each entry, and a convolution tree. No other crate uses it.
 #![tactic(auto)]
+
 ghost use Rattle.std.specs.Prelude.{◌≡◌, map};
 ghost use Rattle.array_utils.specs.LogTable.{log_table};
 ghost use Rattle.bench.specs.Leaves.{exp_leaf, log_normalize_leaf, leaf_of};

@@ -1,5 +1,6 @@
 // The listing that the program prints, as bytes in a buffer that the caller lends.
 #![tactic(auto)]
+
 mod fields;
 mod lines;
 mod parts;

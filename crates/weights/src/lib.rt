@@ -1,5 +1,6 @@
 // The morning's lines, `bale,kilograms`, read one by one from lent bytes.
 #![tactic(auto)]
+
 ghost use Rattle.std.specs.Prelude.{◌≤◌, ◌≡◌};
 ghost use Rattle.definition.specs.Tonnage.{at_most, next_digit};
 ghost use Rattle.weights.specs.Reading.{so_far, digit_of, NumberAt, LineAt};

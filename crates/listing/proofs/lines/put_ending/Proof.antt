@@ -12,7 +12,7 @@ use borrow.Author.Rules.{rules}
 use Rattle.listing.proofs.lines.put_ending.Statement.{statement}
 use Rattle.listing.proofs.lines.put_ending.Tie as tie
 
-abbrev ending : tie.Start → Ending
+abbrev ending : (c : tie.Start) → Ending
 ending c = ending_of c.args.ending c.args.residual
 
 start :

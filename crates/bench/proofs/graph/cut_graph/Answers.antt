@@ -1,0 +1,7 @@
+-- `graph::cut_graph` meets its contract. Assumes nothing.
+use mathlib.Core.Path.{sym}
+use Rattle.bench.proofs.graph.cut_graph.Goals as goal
+
+pub returns : goal.returns
+returns c =
+    rw (sym c.check-v.ensures) c.cut_judged.ensures
