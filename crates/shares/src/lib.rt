@@ -1,5 +1,6 @@
 // A bale's grams by grade, added to the totals.
 #![tactic(auto)]
+
 ghost use Rattle.std.specs.Prelude.{◌≡◌, ◌≤◌};
 ghost use Rattle.float_laws.specs.Interval.{In};
 ghost use Rattle.definition.specs.Floats.{zeroᶠ, oneᶠ};
