@@ -1,5 +1,6 @@
 // A part of the graph, in its ranges of the two work slices: opened, swept, made ready for the loop, stepped.
 #![tactic(auto)]
+
 pub mod begin;
 pub mod belief;
 pub mod open;
