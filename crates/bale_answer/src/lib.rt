@@ -1,6 +1,7 @@
 // What a bale file is answered, from its bytes: taken in piece by piece, up to an end word or to the end of the input, checked, and called for. No line is
 // printed here.
 #![tactic(auto)]
+
 mod answer;
 mod call;
 mod input;

@@ -1,5 +1,6 @@
 // Markers read strongly or weakly: the evidence of such reads, one run of the call under them, and the checks of a call that makes many.
 #![tactic(auto)]
+
 ghost use Rattle.std.specs.Prelude.{◌≡◌, ◌+◌, ◌*◌, ◌≤◌, ◌<◌, length, take};
 ghost use Rattle.definition.specs.Refusals.{bale_of, accepted, verdict};
 ghost use Rattle.definition.specs.Call.{overwrite};
