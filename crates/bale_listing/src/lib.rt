@@ -1,5 +1,6 @@
 // The listing of a bale, and of bales that follow one another, in a lent buffer.
 #![tactic(auto)]
+
 mod bale;
 mod next;
 

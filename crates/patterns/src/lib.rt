@@ -1,5 +1,6 @@
 // All read patterns of a small graph: each is run, and what it says of each grade is counted.
 #![tactic(auto)]
+
 mod call;
 mod pattern;
 mod tally;

@@ -1,5 +1,6 @@
 // Tonnage by grade, as programs in C and Rust link it: include/tonnage.h declares the function. A slice is a pointer and a length there.
 #![tactic(auto)]
+
 ghost use Rattle.std.specs.Prelude.{◌≡◌, ◌≤◌, length};
 ghost use Rattle.definition.specs.Call.{overwrite};
 ghost use Rattle.definition.specs.Tonnage.{tonnage_by_grade};
