@@ -39,13 +39,13 @@ fn main() {
     for count in COUNTS {
         let bytes = bale.repeat(count);
         std::fs::write(&input, &bytes).expect("a file can be written");
-        let here = least(|| run("target/bin/shift", &input, &output));
+        let here = least(|| run("crates/shift/out/shift", &input, &output));
         let rust = least(|| drop(black_box(oracle::shift::listing(&bytes))));
         let same = std::fs::read(&output).expect("the listing") == oracle::shift::listing(&bytes).as_bytes();
         assert!(same, "a listing differs");
         println!("{count:7} {here:12.1} {:15.0} {rust:13.1} {:6.2}", count as f64 / here * 1e3, here / rust);
     }
     std::fs::write(&input, &bale).expect("a file can be written");
-    let singly = least(|| (0..RUNS).for_each(|_| run("target/bin/bale", &input, &output))) / RUNS as f64;
+    let singly = least(|| (0..RUNS).for_each(|_| run("crates/bale/out/bale", &input, &output))) / RUNS as f64;
     println!("bale run singly, a process each: {singly:.2} ms a bale");
 }

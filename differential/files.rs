@@ -20,11 +20,11 @@ struct Compared {
 }
 
 const fn bales(name: &'static str, good: Draw, damaged: Draw) -> Compared {
-    Compared { name, program: "target/bin/bale", good, damaged, listing: oracle::bale::listing }
+    Compared { name, program: "crates/bale/out/bale", good, damaged, listing: oracle::bale::listing }
 }
 
 const fn shifts(name: &'static str, good: Draw, damaged: Draw) -> Compared {
-    Compared { name, program: "target/bin/shift", good, damaged, listing: oracle::shift::listing }
+    Compared { name, program: "crates/shift/out/shift", good, damaged, listing: oracle::shift::listing }
 }
 
 /// By their names on the command line; the first is meant where there is none.

@@ -38,7 +38,7 @@ fn written(morning: &Morning, name: &str) -> [PathBuf; 2] {
 
 fn program_agrees(morning: &Morning) -> bool {
     let name = format!("{:?}", std::thread::current().id()).replace(['(', ')'], "");
-    let done = Command::new("target/bin/depot").args(written(morning, &name)).output().expect("the program runs");
+    let done = Command::new("crates/depot/out/depot").args(written(morning, &name)).output().expect("the program runs");
     done.stdout == listing(&morning.csv, &morning.shift).into_bytes() && done.stderr.is_empty()
 }
 

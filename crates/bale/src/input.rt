@@ -8,7 +8,7 @@ ghost use Rattle.bale.specs.Program.{decided, listing_of};
 ghost use Rattle.bale.specs.Taking.{HoldsInput, SomeHeld};
 
 use bale_answer::Input;
-use streams::{Phase, is_reading};
+use streams::{Answer, Phase, is_reading};
 
 #[derive(Clone, Copy)]
 pub struct Taking {
@@ -38,7 +38,7 @@ pub fn is_going(taking: Taking) -> bool
 // What a `read` gave that answered `got` and left this in its buffer.
 pub fn take_read(
     input: Input,
-    got: isize,
+    got: Answer,
     buffer: &[u8],
     markers: &mut [u32],
     pairs: &mut [u32],
@@ -47,7 +47,7 @@ pub fn take_read(
     requires bytes_bound { (input.bytes ≤ 4294967296) × (length buffer.now ≤ 65536) }
     ensures { (bs : List ℕ) → TakenIn bs input markers.old pairs.old → HoldsInput (after_read decided (read_call got buffer.now) bs) result markers.new pairs.new }
 {
-    let n = io::count(got, buffer);
+    let n = streams::count(got, buffer);
     let taken = bale_answer::take_piece(input, &buffer[..n], markers, pairs);
     let enough = bale_answer::is_decided(taken.decoder);
     let phase = streams::phase_after(got, n, taken.bytes, enough);

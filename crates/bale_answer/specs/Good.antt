@@ -58,7 +58,7 @@ module _ (bs : List ℕ) (d : Decoder) (ms ps : List ℕ) (h : Small bs d ms ps)
       (no_ltb _ _ y.0, no_ltb _ _ y.1, no_ltb _ _ x.1)
 
   pub slices_within : (d.reading.markers ≤ length ms) × (d.reading.pairs ≤ length ps)
-  slices_within = (omega (arith, counts-within.1, h.taken.markers_now), omega (arith, counts-within.2, h.taken.pairs-now))
+  slices_within = (omega (arith, counts-within.1, h.taken.markers_now), omega (arith, counts-within.2, h.taken.pairs_now))
 
   -- two floats to a marker, and two numbers to a pair
   pub small_lengths :
@@ -87,7 +87,7 @@ module _ (bs : List ℕ) (d : Decoder) (ms ps : List ℕ) (h : Small bs d ms ps)
       let f = fed_of d ms ps in
       let e = decoded-settings bs t.markers_before t.pairs_before f D in
       let g = decoded-bale bs t.markers_before t.pairs_before f D es qs
-      (omega (arith, c.1)) (omega (arith, c.1, t.markers_before_lem)) (omega (arith, c.2)) (omega (arith, c.2, t.pairs-before)) m p in
+      (omega (arith, c.1)) (omega (arith, c.1, t.markers_before_length)) (omega (arith, c.2)) (omega (arith, c.2, t.pairs_before_length)) m p in
       (λ i. result_of (verdict (e i) (z i) (g i)) (e i) (g i) l)
       ∙ ap (λ (v : Verdict). result_of v (settings_of_words (words bs)) (bale_of_words (words bs)) l)
       (sym (verdict_small bs h.whole h.not-zero (over-is bs d ms ps t h.whole ∙ h.within)))

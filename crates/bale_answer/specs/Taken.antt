@@ -19,10 +19,10 @@ pub record Taken (bs : List ℕ) (d : Decoder) (ms ps : List ℕ) : Type 0 where
   pub few : length bs < 2 ^ 64
   pub markers_before : List ℕ
   pub pairs_before : List ℕ
-  pub markers_before_lem : length markers_before ≡ 24
-  pub pairs-before : length pairs_before ≡ 140
+  pub markers_before_length : length markers_before ≡ 24
+  pub pairs_before_length : length pairs_before ≡ 140
   pub markers_now : length ms ≡ 24
-  pub pairs-now : length ps ≡ 140
+  pub pairs_now : length ps ≡ 140
   pub is-fed : fed_of d ms ps ≡ fed bs (fed_of started markers_before pairs_before)
 
 pub record SomeTaken (d : Decoder) (ms ps : List ℕ) : Type 0 where
@@ -44,7 +44,7 @@ pub taken_none : (i : Input) → i.decoder ≡ started → i.bytes ≡ 0 → (ms
 taken_none i e z ms ps a b =
     record {
       counted = z;
-      taken = record { few = omega arith; markers_before = ms; pairs_before = ps; markers_before_lem = a; pairs-before = b; markers_now = a; pairs-now = b; is-fed = fed-start _ ms ps e };
+      taken = record { few = omega arith; markers_before = ms; pairs_before = ps; markers_before_length = a; pairs_before_length = b; markers_now = a; pairs_now = b; is-fed = fed-start _ ms ps e };
     }
 
 pub taken_more :
@@ -59,10 +59,10 @@ taken_more bs piece i j ms ps ns qs t h e m p c =
         few = omega (arith, t.counted, k);
         markers_before = u.markers_before;
         pairs_before = u.pairs_before;
-        markers_before_lem = u.markers_before_lem;
-        pairs-before = u.pairs-before;
+        markers_before_length = u.markers_before_length;
+        pairs_before_length = u.pairs_before_length;
         markers_now = m ∙ u.markers_now;
-        pairs-now = p ∙ u.pairs-now;
+        pairs_now = p ∙ u.pairs_now;
         is-fed = fed-more bs piece _ _ _ u.is-fed e;
       };
     }

@@ -56,7 +56,7 @@ module _ (bs piece : List ℕ) (e : Bool) (n : ℕ) (i : Input) (ms ps : List �
     bale-listed h j begun k wf' wn' out' l =
         let t = ends h in
         let u = t.3.taken in
-        let b = begun ms ps u.markers_now u.pairs-now in
+        let b = begun ms ps u.markers_now u.pairs_now in
         inl (record { some = t.0; within = t.1; ended = t.2; listed = l (bs ++ take n piece) u; next = none_open j ms ps b })
 
     pub still_open : e ≡ false → NextListed bs piece (record { input = i; used = n; len = 0 }) ms ps wf wn out wf wn out

@@ -1,8 +1,8 @@
 -- What the code holds of the shift that came, and what of its outcome was handed over.
-use Rattle.std.specs.Prelude.{ℕ, ◌≤◌, ◌≡◌, Bool, true, false, cond, not, ◌&&◌, ◌||◌, List, [], ◌++◌, length}
+use Rattle.std.specs.Prelude.{ℕ, ◌≤◌, ◌≡◌, Bool, true, false, Option, cond, not, ◌&&◌, ◌||◌, List, [], ◌++◌, length, IfSome}
 use Rattle.definition.specs.Tonnage.{tonnage, weighing_lines}
 use Rattle.streams.specs.Input.{Came, never, CameBy, is_reading}
-use Rattle.streams.specs.Writes.{HandedOver}
+use Rattle.streams.specs.Writes.{Gone}
 use Rattle.streams.specs.declared.input.Phase.{Phase}
 use Rattle.streams.specs.declared.input.Phase.TheVariants.{Reading, Whole, TooLong, Unreadable}
 use Rattle.tonnage.specs.Standings.{is_waiting}
@@ -36,16 +36,17 @@ is_whole Unreadable = false
 abbrev pub is_settled : Depot → Bool
 is_settled d = not (waits d) || is_whole d.phase
 
--- Some calls of `read`, each because there was more to read. What they gave is held.
-pub record Going (csv : List ℕ) (d : Depot) (ms ps sums : List ℕ) : Type 0 where
+-- Some calls of `read`, each because there was more to read. What they gave is held: of a reader whose bytes are known, what it had more before them than after.
+pub record Going (unread left : Option (List ℕ)) (csv : List ℕ) (d : Depot) (ms ps sums : List ℕ) : Type 0 where
   pub came : Came
-  pub by : CameBy never came
+  pub by : CameBy never unread left came
   pub holds : HoldsDepot csv came d ms ps sums
 
--- After the last of them there is no more, or no line waits for it.
-pub record ReadBy (csv : List ℕ) (d : Depot) (ms ps sums : List ℕ) : Type 0 where
-  pub going : Going csv d ms ps sums
+-- After the last of them there is no more, or no line waits for it. A whole shift is all that a reader had whose bytes are known.
+pub record ReadBy (unread left : Option (List ℕ)) (csv : List ℕ) (d : Depot) (ms ps sums : List ℕ) : Type 0 where
+  pub going : Going unread left csv d ms ps sums
   pub ended : is_going d ≡ false
+  pub whole : d.phase ≡ Whole → IfSome unread (λ xs. going.came.bytes ≡ xs)
 
 pub record SomeDepot (d : Depot) (sums : List ℕ) : Type 0 where
   pub csv : List ℕ
@@ -62,5 +63,7 @@ Follows d xs = waits d ≡ true → xs ≡ []
 abbrev pub text_of : List ℕ → Came → Depot → List ℕ → List ℕ
 text_of csv x d xs = cond (is_settled d) (weighing_lines (tonnage csv (x.bytes ++ xs))) []
 
-abbrev pub OutcomeHanded : Depot → List ℕ → Bool → Type 0
-OutcomeHanded d sums all = (csv : List ℕ) (x : Came) (ms ps xs : List ℕ) → HoldsDepot csv x d ms ps sums → Follows d xs → HandedOver (text_of csv x d xs) all
+-- that was handed over, to a writer that held bytes before and after it
+abbrev pub OutcomeHanded : Option (List ℕ) → Option (List ℕ) → Depot → List ℕ → Bool → Type 0
+OutcomeHanded before after d sums all =
+    (csv : List ℕ) (x : Came) (ms ps xs : List ℕ) → HoldsDepot csv x d ms ps sums → Follows d xs → Gone before after (text_of csv x d xs) all

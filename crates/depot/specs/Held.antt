@@ -1,27 +1,27 @@
 -- What is held of the shift after a read more, and what is to be printed.
-use Rattle.std.specs.Prelude.{ℕ, ◌+◌, ◌≤◌, ◌<◌, ◌≡◌, refl, Bool, true, false, ◌&&◌, List, [], ◌++◌, ℤ, length, take, drop}
+use Rattle.std.specs.Prelude.{ℕ, ◌+◌, ◌≤◌, ◌<◌, ◌≡◌, refl, Bool, Option, true, false, ◌&&◌, List, [], ◌++◌, length, take, drop}
 use Rattle.std.proofs.Common.{arith, sym, ap, subst, ◌∙◌, true≢false, append-nil}
-use Rattle.libc.specs.Io.{Moved}
-use Rattle.io.specs.Counts.{clamp_len}
 use Rattle.definition.specs.Call.{overwrite}
 use Rattle.definition.specs.Tonnage.{tonnage, weighing_lines}
 use Rattle.list_laws.specs.Put.{put}
 use Rattle.theorems.specs.Facts.{ended_bales}
 use Rattle.listing.specs.Writing.{Written, written_is}
 use Rattle.listing.specs.Front.{front_fits}
+use Rattle.streams.specs.declared.calls.Answer.{Answer}
+use Rattle.streams.specs.Calls.{AnsweredWithin, counted, ReadMoves}
 use Rattle.streams.specs.Reads.{read_call}
 use Rattle.streams.specs.Input.{Came, never, is_reading, phase_after, after_read, to_read}
-use Rattle.streams.specs.Input.{bytes_after, length-after, phase_is, few_while_reading, came-more, less_to-read}
+use Rattle.streams.specs.Input.{bytes_after, length-after, phase_is, few_while_reading, all_came, came-more, less_to-read}
 use Rattle.tonnage.specs.Standings.{HoldsTally, weighing_with}
 use Rattle.tonnage.specs.Weighed.{Weighs}
 use Rattle.tonnage.specs.Pieces.{tally_settled}
 use Rattle.tonnage.specs.declared.tally.Outcome.{Outcome}
 use Rattle.depot.specs.declared.depot.Depot.{Depot}
-use Rattle.depot.specs.Depots.{HoldsDepot, SomeGoing, Going, waits, is_going, is_settled, SomeDepot, Follows, text_of}
+use Rattle.depot.specs.Depots.{HoldsDepot, SomeGoing, Going, ReadBy, waits, is_going, is_settled, SomeDepot, Follows, text_of}
 
 -- ---- a read more, of which n bytes were weighed
 
-module _ (csv : List ℕ) (x : Came) (got : ℤ) (buffer : List ℕ) (n : ℕ) (counted : n ≡ clamp_len got (length buffer)) (within : n ≤ length buffer) where
+module _ (csv : List ℕ) (x : Came) (got : Answer) (buffer : List ℕ) (n : ℕ) (is : n ≡ counted got (length buffer)) (within : n ≤ length buffer) where
   abbrev next : Came
   next = after_read never (read_call got buffer) x.bytes
 
@@ -29,11 +29,11 @@ module _ (csv : List ℕ) (x : Came) (got : ℤ) (buffer : List ℕ) (n : ℕ) (
       (d u : Depot) (ms ps sums ns qs us : List ℕ) → HoldsDepot csv x d ms ps sums → Weighs csv (x.bytes ++ take n buffer) u.weighing ns qs us →
       u.bytes ≡ d.bytes + n → u.phase ≡ phase_after got n u.bytes false → HoldsDepot csv next u ns qs us
   held-read d u ms ps sums ns qs us h w b p =
-      let c : u.bytes ≡ length next.bytes = b ∙ ap (λ (m : ℕ). m + n) h.counted ∙ sym (length-after never got buffer x.bytes n counted within) in
+      let c : u.bytes ≡ length next.bytes = b ∙ ap (λ (m : ℕ). m + n) h.counted ∙ sym (length-after never got buffer x.bytes n is within) in
       record {
-        phase = p ∙ phase_is never got buffer x.bytes n counted within u.bytes false c refl;
+        phase = p ∙ phase_is never got buffer x.bytes n is within u.bytes false c refl;
         counted = c;
-        weighs = subst (λ (l : List ℕ). Weighs csv l u.weighing ns qs us) (bytes_after never got buffer x.bytes n counted) w;
+        weighs = subst (λ (l : List ℕ). Weighs csv l u.weighing ns qs us) (bytes_after never got buffer x.bytes n is) w;
       }
 
 -- ---- the loop
@@ -46,27 +46,36 @@ more-to-read : (a b : Bool) → (a && b) ≡ true → b ≡ true
 more-to-read true b h = h
 more-to-read false b h = absurd (true≢false (sym h))
 
-module _ (csv : List ℕ) (d : Depot) (ms ps sums : List ℕ) (g : Going csv d ms ps sums) (more : is_going d ≡ true) where
+-- the reader had `unread` before it and has `left` now
+module _ (unread left : Option (List ℕ)) (csv : List ℕ) (d : Depot) (ms ps sums : List ℕ) (g : Going unread left csv d ms ps sums) (more : is_going d ≡ true) where
   reading : is_reading g.came.phase ≡ true
   reading = ap is_reading (sym g.holds.phase) ∙ more-to-read (waits d) (is_reading d.phase) more
 
   pub going-some : SomeGoing csv d ms ps sums
-  going-some = record { came = g.came; holds = g.holds; few = few_while_reading never g.came g.by reading }
+  going-some = record { came = g.came; holds = g.holds; few = few_while_reading never unread left g.came g.by reading }
 
   -- a read more, which answered `got`
   module _
-      (got : ℤ) (buffer : List ℕ) (u : Depot) (ns qs us : List ℕ)
+      (got : Answer) (buffer : List ℕ) (u : Depot) (ns qs us : List ℕ)
       (h : HoldsDepot csv (after_read never (read_call got buffer) g.came.bytes) u ns qs us) where
-    pub going_more : length buffer ≡ 65536 → Moved 65536 got → Going csv u ns qs us
-    going_more l m =
+    pub going_more :
+        (rest : Option (List ℕ)) → length buffer ≡ 65536 → AnsweredWithin 65536 got → ReadMoves left rest got buffer → Going unread rest csv u ns qs us
+    going_more rest l m r =
         record {
           came = after_read never (read_call got buffer) g.came.bytes;
-          by = came-more never g.came g.by reading got buffer l m;
+          by = came-more never unread left g.came g.by reading got buffer rest l m r;
           holds = h;
         }
 
     pub going_less : to_read_of u < to_read_of d
-    going_less = rw (h.phase, h.counted, g.holds.phase, g.holds.counted) (less_to-read never g.came g.by reading got buffer)
+    going_less = rw (h.phase, h.counted, g.holds.phase, g.holds.counted) (less_to-read never unread left g.came g.by reading got buffer)
+
+-- behind the loop
+pub read_all :
+    (unread left : Option (List ℕ)) (csv : List ℕ) (d : Depot) (ms ps sums : List ℕ) → Going unread left csv d ms ps sums → is_going d ≡ false →
+    ReadBy unread left csv d ms ps sums
+read_all unread left csv d ms ps sums g e =
+    record { going = g; ended = e; whole = λ w. all_came never unread left g.came g.by (sym g.holds.phase ∙ w) refl }
 
 -- ---- what is printed
 

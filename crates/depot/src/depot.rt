@@ -1,11 +1,11 @@
-// How far a shift's input was read and weighed, and what is printed of it. What is decided here calls nothing of C.
+// How far a shift's input was read and weighed, and what is printed of it. What is decided here neither reads nor writes.
 ghost use Rattle.std.specs.Prelude.{◌≡◌, List, [], ℕ, ◌≤◌, length, replicate};
 ghost use Rattle.definition.specs.Call.{overwrite};
 ghost use Rattle.streams.specs.Reads.{read_call};
 ghost use Rattle.streams.specs.Input.{Came, never, after_read, came_by};
 ghost use Rattle.depot.specs.Depots.{HoldsDepot, SomeDepot, SomeGoing, is_going, is_settled, Follows, text_of};
 
-use streams::{Phase, is_reading, phase_after};
+use streams::{Answer, Phase, is_reading, phase_after};
 use tonnage::{Outcome, Weighing};
 
 #[derive(Clone, Copy)]
@@ -67,7 +67,7 @@ pub fn is_settled(depot: Depot) -> bool
 // What a `read` gave that answered `got` and left this in its buffer.
 pub fn take_read(
     depot: Depot,
-    got: isize,
+    got: Answer,
     buffer: &[u8],
     csv: &[u8],
     markers: &mut [u32],
@@ -81,7 +81,7 @@ pub fn take_read(
     requires work_floats_len { (length work_floats.old ≡ 16128) × (length work_numbers.old ≡ 16128) }
     ensures { (x : Came) → HoldsDepot csv.now x depot markers.old pairs.old sums.old → HoldsDepot csv.now (after_read never (read_call got buffer.now) x.bytes) result markers.new pairs.new sums.new }
 {
-    let n = io::count(got, buffer);
+    let n = streams::count(got, buffer);
     let held = depot.weighing;
     let weighing = tonnage::weigh_piece(
         held,

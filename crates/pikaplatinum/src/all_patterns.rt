@@ -1,4 +1,4 @@
-// All read patterns of a small graph, as programs in C and Rust link it.
+// All read patterns of a small graph, as programs in C and Rust call it.
 ghost use Rattle.std.specs.Prelude.{◌≡◌};
 ghost use Rattle.definition.specs.Patterns.{pattern_call};
 ghost use Rattle.definition.specs.Settings.{settings_of};
@@ -36,8 +36,7 @@ fn patterns_of(outcome: ReportOutcome) -> Patterns
 }
 
 // Of the evidence only its length counts.
-#[unsafe(no_mangle)]
-pub extern "C" fn pikaplatinum_count_patterns(
+pub fn pikaplatinum_count_patterns(
     alpha: f32,
     beta: f32,
     prior: f32,

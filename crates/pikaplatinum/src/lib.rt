@@ -1,5 +1,6 @@
-// The library as programs in C and Rust link it: include/pikaplatinum.h declares these functions. A slice is a pointer and a length there.
+// What programs in C and Rust call, answered in numbers: the crate pikaplatinum_c exports these functions.
 #![tactic(auto)]
+
 ghost use Rattle.std.specs.Prelude.{◌≡◌};
 ghost use Rattle.definition.specs.Call.{call};
 ghost use Rattle.claims.specs.CallByParts.{AnsweredByParts};
@@ -48,8 +49,7 @@ fn reply_of(outcome: Outcome) -> Reply
 }
 
 // The call. Of each part of an accepted one its result says what `AnsweredByParts` does.
-#[unsafe(no_mangle)]
-pub extern "C" fn pikaplatinum_calibrate_all_subgraphs(
+pub fn pikaplatinum_calibrate_all_subgraphs(
     alpha: f32,
     beta: f32,
     prior: f32,
@@ -102,8 +102,7 @@ pub struct Sizes {
 }
 
 // For a bale of so many grades, markers and pairs.
-#[unsafe(no_mangle)]
-pub extern "C" fn pikaplatinum_sizes(grades: u32, markers: u32, pairs: u32) -> Sizes
+pub fn pikaplatinum_sizes(grades: u32, markers: u32, pairs: u32) -> Sizes
     ensures { buffers_of result ≡ least_buffers grades markers pairs }
 {
     let g = grades as u64;

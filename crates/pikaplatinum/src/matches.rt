@@ -1,4 +1,4 @@
-// Two readers over one belt, as programs in C and Rust link it.
+// Two readers over one belt, as programs in C and Rust call it.
 ghost use Rattle.std.specs.Prelude.{◌≡◌};
 ghost use Rattle.definition.specs.Readers.{match_call};
 ghost use Rattle.pikaplatinum.specs.Matches.{matches_to, MatchAnswers};
@@ -32,8 +32,7 @@ fn matches_of(answer: Answer) -> Matches
 }
 
 // The upper and the lower reads, two numbers each: a tick and a marker.
-#[unsafe(no_mangle)]
-pub extern "C" fn pikaplatinum_match_reads(
+pub fn pikaplatinum_match_reads(
     upper: &[u32],
     lower: &[u32],
     window: u32,

@@ -1,4 +1,4 @@
-// Settings tried on made-up bales, as programs in C and Rust link it.
+// Settings tried on made-up bales, as programs in C and Rust call it.
 ghost use Rattle.std.specs.Prelude.{◌≡◌};
 ghost use Rattle.definition.specs.Trials.{trials_of, trial_call};
 ghost use Rattle.reads.specs.Reported.{report_lent_with};
@@ -35,8 +35,7 @@ fn trials_of(outcome: ReportOutcome) -> Trials
 }
 
 // Three numbers to a setting; of the evidence only its length counts.
-#[unsafe(no_mangle)]
-pub extern "C" fn pikaplatinum_try_settings(
+pub fn pikaplatinum_try_settings(
     settings: &[u32],
     seed: u32,
     bales: u32,

@@ -44,7 +44,7 @@ pub fn is_listing(file: &[u8], text: &[u8]) -> bool
     let mut work_numbers = [0; 16128];
     let start = begin();
     let input = take_piece(start, file, &mut markers, &mut pairs);
-    let mut out = io::buffer();
+    let mut out = [0; 4096];
     let n = list_bale(
         input.decoder,
         &markers,
@@ -65,7 +65,7 @@ pub fn is_shift_listing(file: &[u8], text: &[u8]) -> bool
     let mut pairs = [0; 140];
     let mut work_floats = [0.0; 16128];
     let mut work_numbers = [0; 16128];
-    let mut out = io::buffer();
+    let mut out = [0; 4096];
     let mut input = begin();
     let mut at = 0;
     let mut told = 0;

@@ -6,6 +6,7 @@
 // them differ (`replay_all`). What is only run: that this list is `stdin`. No contract can say which bytes a read gave, so `read_entry` says only that
 // they fit; that all are read, and each counted, is to be seen in `replay_next` and `replay_all`.
 #![tactic(auto)]
+
 ghost use Rattle.std.specs.Prelude.{◌≡◌, ◌+◌, ◌*◌, ◌≤◌, ◌<◌, length};
 ghost use Rattle.replay.specs.Same.{same_bytes};
 ghost use Rattle.replay.specs.Entries.{listing_as, whole, differs, one_more, Fits, Replayed, Stepped};
@@ -13,7 +14,8 @@ ghost use Rattle.replay.specs.Entries.{listing_as, whole, differs, one_more, Fit
 mod listed;
 
 use crate::listed::{is_listing, is_shift_listing};
-use libc::{STDIN_FILENO, STDOUT_FILENO};
+use std::io;
+use streams::read_full;
 
 const MOST_FILES: u64 = 1000000;
 
@@ -55,11 +57,11 @@ fn number_of(a: u8, b: u8, c: u8) -> usize
 }
 
 // Three bytes are the length, and the byte above them tells a shift.
-fn read_head() -> Head
+fn read_head<R: io::Read>(from: &mut R) -> Head
     ensures { result.len ≤ 4097 }
 {
     let mut four = [0u8; 4];
-    let got = io::read_full(STDIN_FILENO, &mut four);
+    let got = read_full(from, &mut four);
     let n = number_of(four[0], four[1], four[2]);
     let shift = four[3] != 0;
     if got < 4 || 4096 < n {
@@ -86,17 +88,17 @@ fn is_listed(shift: bool, file: &[u8], text: &[u8]) -> bool
 }
 
 // Reads the next file and the text behind it to the front of the two buffers.
-fn read_entry(file: &mut [u8], text: &mut [u8]) -> Read
+fn read_entry<R: io::Read>(from: &mut R, file: &mut [u8], text: &mut [u8]) -> Read
     requires { (length file.old ≡ 4096) × (length text.old ≡ 4096) }
     ensures { Fits result }
 {
-    let head = read_head();
+    let head = read_head(from);
     let n = head.len;
     if n == NONE {
         return Read::End;
     }
-    let got = io::read_full(STDIN_FILENO, &mut file[..n]);
-    let behind = read_head();
+    let got = read_full(from, &mut file[..n]);
+    let behind = read_head(from);
     let k = behind.len;
     if got < n {
         return Read::Broken;
@@ -104,7 +106,7 @@ fn read_entry(file: &mut [u8], text: &mut [u8]) -> Read
     if k == NONE {
         return Read::Broken;
     }
-    if io::read_full(STDIN_FILENO, &mut text[..k]) < k {
+    if read_full(from, &mut text[..k]) < k {
         return Read::Broken;
     }
     Read::Entry(head.shift, n, k)
@@ -133,13 +135,13 @@ fn count_entry(counts: Counts, shift: bool, file: &[u8], text: &[u8]) -> Counts
 }
 
 // Reads the next entry and counts it. One that breaks off differs.
-fn replay_next(counts: Counts) -> Step
+fn replay_next<R: io::Read>(from: &mut R, counts: Counts) -> Step
     requires { (counts.differ ≤ counts.files) × (counts.files < 1000000) }
     ensures { Stepped counts result }
 {
-    let mut file = io::buffer();
-    let mut text = io::buffer();
-    let read = read_entry(&mut file, &mut text);
+    let mut file = [0; 4096];
+    let mut text = [0; 4096];
+    let read = read_entry(from, &mut file, &mut text);
     match read {
         Read::Entry(shift, n, k) => Step::Counted(count_entry(
             counts,
@@ -152,7 +154,7 @@ fn replay_next(counts: Counts) -> Step
     }
 }
 
-fn replay_all() -> Counts
+fn replay_all<R: io::Read>(from: &mut R) -> Counts
     ensures { Replayed result }
 {
     let mut counts = Counts {
@@ -160,7 +162,7 @@ fn replay_all() -> Counts
         differ: 0,
     };
     while counts.files < MOST_FILES {
-        let step = replay_next(counts);
+        let step = replay_next(from, counts);
         match step {
             Step::Counted(next) => {
                 counts = next;
@@ -173,10 +175,9 @@ fn replay_all() -> Counts
     counts
 }
 
-fn main() {
-    let counts = replay_all();
-    io::print_decimal(STDOUT_FILENO, counts.files);
-    io::write_all(STDOUT_FILENO, b" files, ");
-    io::print_decimal(STDOUT_FILENO, counts.differ);
-    io::write_all(STDOUT_FILENO, b" differ\n");
+fn main(rt: HostRuntime) {
+    let counts = replay_all(&mut rt.stdin());
+    let files = counts.files;
+    let differ = counts.differ;
+    let _ = println!(rt; "{files} files, {differ} differ");
 }

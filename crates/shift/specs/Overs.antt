@@ -1,5 +1,5 @@
 -- What went over, piece by piece: where nothing came, where a piece ends a bale or does not, and where more comes.
-use Rattle.std.specs.Prelude.{ℕ, ◌+◌, ◌^◌, ◌≤◌, ◌<◌, ◌≡◌, refl, Bool, true, false, List, [], ◌∷◌, ◌++◌, map, Float, length, take, drop}
+use Rattle.std.specs.Prelude.{ℕ, ◌+◌, ◌^◌, ◌≤◌, ◌<◌, ◌≡◌, refl, Bool, true, false, Option, List, [], ◌∷◌, ◌++◌, map, Float, length, take, drop}
 use Rattle.std.proofs.Common.{arith, sym, ap, subst, ◌∙◌, inl, inr, true≢false, append_assoc, append-nil, length-append, length-drop, take-append-drop, take-add, take_all, length-take-le}
 use Rattle.std.proofs.lemmas.List.{map-append}
 use borrow.Author.Rules.{part_to_end}
@@ -10,7 +10,7 @@ use Rattle.claims.specs.ShiftCut.{NoEnd, EndedBale}
 use Rattle.shift_laws.specs.Cut.{last_bale}
 use Rattle.shift_laws.specs.Ended.{ended_bales, open_bale, bales_split, open_short, none-ended, all_open, ended-first, open_first, ended-more, open_more}
 use Rattle.listing.specs.Front.{front-is}
-use Rattle.streams.specs.Writes.{rest, HandedOver, HandedInOrder, handed_one, handed_then, handed_not, handed_empty}
+use Rattle.streams.specs.Writes.{rest, Gone, GoneInOrder, gone_one, gone_then, gone_not, gone_empty}
 use Rattle.streams.specs.declared.input.Phase.{Phase}
 use Rattle.streams.specs.declared.input.Phase.TheVariants.{Reading, Whole, TooLong, Unreadable}
 use Rattle.bale_answer.specs.declared.input.Input.{Input}
@@ -26,13 +26,13 @@ abbrev pub went : Input → Bool → Went
 went i b = record { input = i; written = b }
 
 -- bytes with no end word are held
-pub went_open : (p : List ℕ) (i : Input) (ms ps : List ℕ) → OpenIn p i ms ps → WentOver p (went i true) ms ps
-went_open p i ms ps h =
+pub went_open : (a b : Option (List ℕ)) (p : List ℕ) (i : Input) (ms ps : List ℕ) → GoneInOrder a b [] true → OpenIn p i ms ps → WentOver a b p (went i true) ms ps
+went_open a b p i ms ps g h =
     record {
-      handed = rw (none-ended p h.no_end) tt;
+      handed = rw (none-ended p h.no_end) g;
       held = λ e. rw (all_open p h.no_end) h;
       markers_now = h.taken.taken.markers_now;
-      pairs-now = h.taken.taken.pairs-now;
+      pairs_now = h.taken.taken.pairs_now;
     }
 
 -- the listings of the bales that were ended
@@ -62,45 +62,48 @@ module _ (bs xs : List ℕ) where
   ended_are = ap (map listing) (ended-more bs xs) ∙ map-append listing (ended_bales bs) (ended_bales (open_bale bs ++ xs))
 
   -- behind those of which all went
-  pub went-more : (v w : Went) (ms ps ns qs : List ℕ) → WentOver bs v ms ps → v.written ≡ true → WentOver (open_bale bs ++ xs) w ns qs → WentOver (bs ++ xs) w ns qs
-  went-more v w ms ps ns qs h e g =
+  pub went-more :
+      (a b c : Option (List ℕ)) (v w : Went) (ms ps ns qs : List ℕ) → WentOver a b bs v ms ps → v.written ≡ true → WentOver b c (open_bale bs ++ xs) w ns qs →
+      WentOver a c (bs ++ xs) w ns qs
+  went-more a b c v w ms ps ns qs h e g =
       record {
-        handed = rw ended_are (handed_then (texts (open_bale bs ++ xs)) (texts bs) w.written (rw e at h.handed) g.handed);
+        handed = rw ended_are (gone_then a b c (texts (open_bale bs ++ xs)) (texts bs) w.written (rw e at h.handed) g.handed);
         held = λ f. rw (open_more bs xs) (g.held f);
         markers_now = g.markers_now;
-        pairs-now = g.pairs-now;
+        pairs_now = g.pairs_now;
       }
 
   -- behind a bale that did not go
-  pub went-not : (w : Went) (ms ps : List ℕ) → WentOver bs w ms ps → w.written ≡ false → WentOver (bs ++ xs) w ms ps
-  went-not w ms ps h e =
+  pub went-not : (a b : Option (List ℕ)) (w : Went) (ms ps : List ℕ) → WentOver a b bs w ms ps → w.written ≡ false → WentOver a b (bs ++ xs) w ms ps
+  went-not a b w ms ps h e =
       record {
-        handed = rw (ended_are, e) (handed_not (texts (open_bale bs ++ xs)) (texts bs) (rw e at h.handed));
+        handed = rw (ended_are, e) (gone_not a b (texts (open_bale bs ++ xs)) (texts bs) (rw e at h.handed));
         held = λ f. absurd (true≢false (sym f ∙ e));
         markers_now = h.markers_now;
-        pairs-now = h.pairs-now;
+        pairs_now = h.pairs_now;
       }
 
 -- ---- a piece behind bytes with no end word, and what of it was listed next
 
 module _ (p piece : List ℕ) (r : Listed) (ns qs : List ℕ) (wf : List Float) (wn out : List ℕ) (wf' : List Float) (wn' out' : List ℕ) where
-  module _ (b : Bool) (o : HandedOver (take r.len out') b) where
-    pub went-next : NextListed p piece r ns qs wf wn out wf' wn' out' → WentOver (p ++ take r.used piece) (went r.input b) ns qs
+  -- the writer held a before that listing, and z behind it
+  module _ (a z : Option (List ℕ)) (b : Bool) (o : Gone a z (take r.len out') b) where
+    pub went-next : NextListed p piece r ns qs wf wn out wf' wn' out' → WentOver a z (p ++ take r.used piece) (went r.input b) ns qs
     went-next (inl h) =
         let q = p ++ take r.used piece in
-        let t : HandedOver (listing q) b = subst (λ (text : List ℕ). HandedOver text b) (front-is (listing q) out out' r.len (h.listed.text, h.listed.long)) o in
+        let t : Gone a z (listing q) b = subst (λ (text : List ℕ). Gone a z text b) (front-is (listing q) out out' r.len (h.listed.text, h.listed.long)) o in
         let e = ended-only q h.ended in
         let f = open_none q h.ended in
         record {
-          handed = rw e (handed_one (listing q) b t);
+          handed = rw e (gone_one a z (listing q) b t);
           held = λ g. rw f h.next;
           markers_now = h.next.taken.taken.markers_now;
-          pairs-now = h.next.taken.taken.pairs-now;
+          pairs_now = h.next.taken.taken.pairs_now;
         }
     went-next (inr h) =
-        let e = handed_empty b (subst (λ (n : ℕ). HandedOver (take n out') b) h.untouched.long o) in
-        let w : WentOver (p ++ piece) (went r.input b) ns qs = rw e (went_open (p ++ piece) r.input ns qs h.held) in
-        subst (λ (l : List ℕ). WentOver (p ++ l) (went r.input b) ns qs) (sym (take_all r.used piece (omega (arith, h.all)))) w
+        let (e, none) = gone_empty a z b (subst (λ (n : ℕ). Gone a z (take n out') b) h.untouched.long o) in
+        let w : WentOver a z (p ++ piece) (went r.input b) ns qs = rw e (went_open a z (p ++ piece) r.input ns qs none h.held) in
+        subst (λ (l : List ℕ). WentOver a z (p ++ l) (went r.input b) ns qs) (sym (take_all r.used piece (omega (arith, h.all)))) w
 
 -- ---- a piece of which k bytes went over
 
@@ -117,21 +120,22 @@ module _ (bs piece : List ℕ) (k : ℕ) where
       ∙ ap (λ (l : List ℕ). bs ++ l) (ap (λ (l : List ℕ). take k piece ++ take u l) (part_to_end piece k) ∙ sym (take-add k u piece))
 
   pub went_step :
-      (i : Input) (ms ps : List ℕ) (r : Listed) (ns qs : List ℕ) (wf : List Float) (wn out : List ℕ) (wf' : List Float) (wn' out' : List ℕ) (b : Bool) →
-      WentOver before (went i true) ms ps → NextListed (open_bale before) behind r ns qs wf wn out wf' wn' out' → HandedOver (take r.len out') b →
-      WentOver (bs ++ take (k + r.used) piece) (went r.input b) ns qs
-  went_step i ms ps r ns qs wf wn out wf' wn' out' b h n o =
+      (a y z : Option (List ℕ)) (i : Input) (ms ps : List ℕ) (r : Listed) (ns qs : List ℕ) (wf : List Float) (wn out : List ℕ) (wf' : List Float) (wn' out' : List ℕ) (b : Bool) →
+      WentOver a y before (went i true) ms ps → NextListed (open_bale before) behind r ns qs wf wn out wf' wn' out' → Gone y z (take r.len out') b →
+      WentOver a z (bs ++ take (k + r.used) piece) (went r.input b) ns qs
+  went_step a y z i ms ps r ns qs wf wn out wf' wn' out' b h n o =
       let w = went r.input b in
-      let x = went-next (open_bale before) behind r ns qs wf wn out wf' wn' out' b o n in
-      subst (λ (l : List ℕ). WentOver l w ns qs) (joined r.used) (went-more before (take r.used behind) (went i true) w ms ps ns qs h refl x)
+      let x = went-next (open_bale before) behind r ns qs wf wn out wf' wn' out' y z b o n in
+      subst (λ (l : List ℕ). WentOver a z l w ns qs) (joined r.used) (went-more before (take r.used behind) a y z (went i true) w ms ps ns qs h refl x)
 
-  pub went-all : (w : Went) (ms ps : List ℕ) → WentOver before w ms ps → length piece ≤ k → WentOver (bs ++ piece) w ms ps
-  went-all w ms ps h l = subst (λ (r : List ℕ). WentOver (bs ++ r) w ms ps) (take_all k piece l) h
+  pub went-all : (a z : Option (List ℕ)) (w : Went) (ms ps : List ℕ) → WentOver a z before w ms ps → length piece ≤ k → WentOver a z (bs ++ piece) w ms ps
+  went-all a z w ms ps h l = subst (λ (r : List ℕ). WentOver a z (bs ++ r) w ms ps) (take_all k piece l) h
 
-  pub went-stopped : (i : Input) (ms ps : List ℕ) → WentOver before (went i false) ms ps → WentOver (bs ++ piece) (went i false) ms ps
-  went-stopped i ms ps h =
+  pub went-stopped :
+      (a z : Option (List ℕ)) (i : Input) (ms ps : List ℕ) → WentOver a z before (went i false) ms ps → WentOver a z (bs ++ piece) (went i false) ms ps
+  went-stopped a z i ms ps h =
       let e = append_assoc bs (take k piece) (drop k piece) ∙ ap (λ (l : List ℕ). bs ++ l) (take-append-drop k piece) in
-      subst (λ (l : List ℕ). WentOver l (went i false) ms ps) e (went-not before (drop k piece) (went i false) ms ps h refl)
+      subst (λ (l : List ℕ). WentOver a z l (went i false) ms ps) e (went-not before (drop k piece) a z (went i false) ms ps h refl)
 
   -- what is held and what is behind it can be counted
   pub countable : (i : Input) (ms ps : List ℕ) → OpenIn (open_bale before) i ms ps → k ≤ length piece → length bs + length piece < 2 ^ 64 → i.bytes + length behind < 2 ^ 64
@@ -141,22 +145,23 @@ module _ (bs piece : List ℕ) (k : ℕ) where
 -- ---- at the end of the input
 
 module _ (n : ℕ) (wf : List Float) (wn out : List ℕ) (wf' : List Float) (wn' out' : List ℕ) where
-  module _ (b : Bool) (g : HandedOver (take n out') b) where
-    rest_handed : (o : List ℕ) → RestListed o n wf wn out wf' wn' out' → HandedInOrder (map listing (last_bale o)) b
-    rest_handed [] h = rw (handed_empty b (subst (λ (m : ℕ). HandedOver (take m out') b) h.long g)) tt
+  -- the writer held y before the last listing, and z behind it
+  module _ (y z : Option (List ℕ)) (b : Bool) (g : Gone y z (take n out') b) where
+    rest_handed : (o : List ℕ) → RestListed o n wf wn out wf' wn' out' → GoneInOrder y z (map listing (last_bale o)) b
+    rest_handed [] h = let (e, none) = gone_empty y z b (subst (λ (m : ℕ). Gone y z (take m out') b) h.long g) in rw e none
     rest_handed (x ∷ l) h =
         let t = listing (x ∷ l) in
-        handed_one t b (subst (λ (text : List ℕ). HandedOver text b) (front-is t out out' n (h.text, h.long)) g)
+        gone_one y z t b (subst (λ (text : List ℕ). Gone y z text b) (front-is t out out' n (h.text, h.long)) g)
 
     -- the last bale too, if there is one
     pub whole_handed :
-        (bs : List ℕ) → HandedInOrder (texts bs) true → RestListed (open_bale bs) n wf wn out wf' wn' out' →
-        HandedInOrder (map listing (bales bs)) b
-    whole_handed bs e h = rw (bales_are bs) (handed_then (map listing (last_bale (open_bale bs))) (texts bs) b e (rest_handed (open_bale bs) h))
+        (a : Option (List ℕ)) (bs : List ℕ) → GoneInOrder a y (texts bs) true → RestListed (open_bale bs) n wf wn out wf' wn' out' →
+        GoneInOrder a z (map listing (bales bs)) b
+    whole_handed a bs e h = rw (bales_are bs) (gone_then a y z (map listing (last_bale (open_bale bs))) (texts bs) b e (rest_handed (open_bale bs) h))
 
 -- a bale that did not go before
-pub texts-not : (p : Phase) (bs : List ℕ) → HandedInOrder (texts bs) false → HandedInOrder (texts_at p bs) false
-texts-not Whole bs h = rw (bales_are bs) (handed_not (map listing (last_bale (open_bale bs))) (texts bs) h)
-texts-not Reading bs h = h
-texts-not TooLong bs h = h
-texts-not Unreadable bs h = h
+pub texts-not : (a b : Option (List ℕ)) (p : Phase) (bs : List ℕ) → GoneInOrder a b (texts bs) false → GoneInOrder a b (texts_at p bs) false
+texts-not a b Whole bs h = rw (bales_are bs) (gone_not a b (map listing (last_bale (open_bale bs))) (texts bs) h)
+texts-not a b Reading bs h = h
+texts-not a b TooLong bs h = h
+texts-not a b Unreadable bs h = h

@@ -1,5 +1,5 @@
-// How far a shift's input was read and listed. What is decided here calls nothing of C.
-ghost use Rattle.std.specs.Prelude.{◌≡◌, List, [], ℕ, length};
+// How far a shift's input was read and listed. What is decided here neither reads nor writes.
+ghost use Rattle.std.specs.Prelude.{◌≡◌, List, [], ℕ, Option, length};
 ghost use Rattle.streams.specs.Input.{never, came_by};
 ghost use Rattle.shift.specs.Shifts.{HoldsShift, is_going};
 
@@ -26,7 +26,7 @@ pub struct Went {
 
 // Before the first read.
 pub fn begin() -> Shift
-    ensures { (ms ps : List ℕ) → length ms ≡ 24 → length ps ≡ 140 → HoldsShift (came_by never []) result ms ps }
+    ensures { (known : Option (List ℕ)) (ms ps : List ℕ) → length ms ≡ 24 → length ps ≡ 140 → HoldsShift known known (came_by never []) result ms ps }
 {
     let input = bale_answer::begin();
     Shift {

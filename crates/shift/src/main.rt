@@ -2,13 +2,14 @@
 // has ended. What is left at the end of the input, if any byte, is a bale too. One set of work buffers serves all bales. A read that fails and an input of
 // over 2^32 bytes end it with a line on standard error, and no listing of the bale that has not ended; so does a write that fails.
 //
-// What is proved and what is only run is as in `bale`: whatever is decided is decided in functions that are handed what the calls of C answered.
+// What is proved and what is only run is as in `bale`: whatever is decided is decided in functions that are handed what `read` and `write` answered.
 #![tactic(auto)]
-ghost use Rattle.std.specs.Prelude.{◌≡◌, List, ◌++◌, ℕ, ◌+◌, ◌^◌, ◌≤◌, ◌<◌, length};
+
+ghost use Rattle.std.specs.Prelude.{◌≡◌, List, ◌++◌, ℕ, ◌+◌, ◌^◌, ◌≤◌, ◌<◌, Option, length};
 ghost use Rattle.bale_answer.specs.Open.{OpenIn, SomeOpenIn};
 ghost use Rattle.streams.specs.Reads.{read_call};
 ghost use Rattle.streams.specs.Input.{Came, never, after_read};
-ghost use Rattle.streams.specs.Writes.{HandedInOrder};
+ghost use Rattle.streams.specs.Writes.{GoneInOrder};
 ghost use Rattle.shift.specs.Program.{texts_of};
 ghost use Rattle.shift.specs.Shifts.{WentOver, HoldsShift, SomeShift, SomeGoing, ReadBy};
 
@@ -17,11 +18,12 @@ mod input;
 use crate::input::{Shift, Went, begin, is_going};
 use bale_answer::Input;
 use bale_listing::{list_last, list_next};
-use libc::{STDERR_FILENO, STDIN_FILENO, STDOUT_FILENO};
-use streams::{Phase, hand_over, phase_after};
+use std::io::{Read, Write};
+use streams::{Answer, Phase, count, hand_over, phase_after, read_some};
 
 // Hands over the listing of each bale that ends in the piece.
-fn list_piece(
+fn list_piece<W: Write>(
+    to: &mut W,
     input: Input,
     piece: &[u8],
     markers: &mut [u32],
@@ -32,9 +34,9 @@ fn list_piece(
     requires some_open_in { SomeOpenIn input markers.old pairs.old }
     requires piece_bound { input.bytes + length piece.now < 2 ^ 64 }
     requires work_floats_len { (length work_floats.old ≡ 16128) × (length work_numbers.old ≡ 16128) }
-    ensures { (bs : List ℕ) → OpenIn bs input markers.old pairs.old → WentOver (bs ++ piece.now) result markers.new pairs.new }
+    ensures { (bs : List ℕ) → OpenIn bs input markers.old pairs.old → WentOver (W.contents to.old) (W.contents to.new) (bs ++ piece.now) result markers.new pairs.new }
 {
-    let mut out = io::buffer();
+    let mut out = [0; 4096];
     let mut held = input;
     let mut at = 0;
     while at < piece.len() {
@@ -50,7 +52,7 @@ fn list_piece(
         let n = next.len;
         at += next.used;
         held = next.input;
-        if !hand_over(STDOUT_FILENO, &out[..n]) {
+        if !hand_over(to, &out[..n]) {
             return Went {
                 input: held,
                 written: false,
@@ -64,9 +66,10 @@ fn list_piece(
 }
 
 // What a `read` gave that answered `got` and left this in its buffer.
-fn take_read(
+fn take_read<W: Write>(
+    to: &mut W,
     shift: Shift,
-    got: isize,
+    got: Answer,
     buffer: &[u8],
     markers: &mut [u32],
     pairs: &mut [u32],
@@ -76,11 +79,12 @@ fn take_read(
     requires some_going { SomeGoing shift markers.old pairs.old }
     requires buffer_len_bound { length buffer.now ≤ 65536 }
     requires work_floats_len { (length work_floats.old ≡ 16128) × (length work_numbers.old ≡ 16128) }
-    ensures { (x : Came) → HoldsShift x shift markers.old pairs.old → HoldsShift (after_read never (read_call got buffer.now) x.bytes) result markers.new pairs.new }
+    ensures { (before : Option (List ℕ)) (x : Came) → HoldsShift before (W.contents to.old) x shift markers.old pairs.old → HoldsShift before (W.contents to.new) (after_read never (read_call got buffer.now) x.bytes) result markers.new pairs.new }
 {
-    let n = io::count(got, buffer);
+    let n = count(got, buffer);
     let input = shift.input;
     let went = list_piece(
+        to,
         input,
         &buffer[..n],
         markers,
@@ -100,7 +104,9 @@ fn take_read(
 }
 
 // Reads to the end of the input, and lists each bale that ends.
-fn read_shift(
+fn read_shift<R: Read, W: Write>(
+    from: &mut R,
+    to: &mut W,
     markers: &mut [u32],
     pairs: &mut [u32],
     work_floats: &mut [f32],
@@ -108,13 +114,14 @@ fn read_shift(
 ) -> Shift
     requires markers_len { (length markers.old ≡ 24) × (length pairs.old ≡ 140) }
     requires work_floats_len { (length work_floats.old ≡ 16128) × (length work_numbers.old ≡ 16128) }
-    ensures { ReadBy result markers.new pairs.new }
+    ensures { ReadBy (R.remaining from.old) (R.remaining from.new) (W.contents to.old) (W.contents to.new) result markers.new pairs.new }
 {
-    let mut buffer = io::large_buffer();
+    let mut buffer = [0; 65536];
     let mut shift = begin();
     while is_going(shift) {
-        let got = libc::read(STDIN_FILENO, &mut buffer);
+        let got = read_some(from, &mut buffer);
         shift = take_read(
+            to,
             shift,
             got,
             &buffer,
@@ -128,7 +135,8 @@ fn read_shift(
 }
 
 // The listing of what no end word has ended, once the end of the input was found. Whether all listings of the shift were handed over.
-fn write_last(
+fn write_last<W: Write>(
+    to: &mut W,
     shift: Shift,
     markers: &[u32],
     pairs: &[u32],
@@ -137,7 +145,7 @@ fn write_last(
 ) -> bool
     requires some_shift { SomeShift shift markers.now pairs.now }
     requires work_floats_len { (length work_floats.old ≡ 16128) × (length work_numbers.old ≡ 16128) }
-    ensures { (x : Came) → HoldsShift x shift markers.now pairs.now → HandedInOrder (texts_of x) result }
+    ensures { (before : Option (List ℕ)) (x : Came) → HoldsShift before (W.contents to.old) x shift markers.now pairs.now → GoneInOrder before (W.contents to.new) (texts_of x) result }
 {
     if !shift.written {
         return false;
@@ -145,10 +153,10 @@ fn write_last(
     let phase = shift.phase;
     match phase {
         Phase::Whole => {
-            let mut out = io::buffer();
+            let mut out = [0; 4096];
             let input = shift.input;
             let n = list_last(input, markers, pairs, work_floats, work_numbers, &mut out);
-            hand_over(STDOUT_FILENO, &out[..n])
+            hand_over(to, &out[..n])
         }
         Phase::Reading => true,
         Phase::TooLong => true,
@@ -157,34 +165,44 @@ fn write_last(
 }
 
 // A line for what went wrong.
-fn complain(phase: Phase, written: bool) {
+fn complain<W: Write>(to: &mut W, phase: Phase, written: bool) {
     if !written {
-        hand_over(STDERR_FILENO, b"shift: a listing can't be written\n");
+        hand_over(to, b"shift: a listing can't be written\n");
         return;
     }
     match phase {
         Phase::TooLong => {
-            hand_over(STDERR_FILENO, b"shift: the input is too long\n");
+            hand_over(to, b"shift: the input is too long\n");
         }
         Phase::Unreadable => {
-            hand_over(STDERR_FILENO, b"shift: the input can't be read\n");
+            hand_over(to, b"shift: the input can't be read\n");
         }
         Phase::Reading | Phase::Whole => {}
     }
 }
 
-fn main() {
+fn main(rt: HostRuntime) {
     let mut markers = [0; 24];
     let mut pairs = [0; 140];
     let mut work_floats = [0.0; 16128];
     let mut work_numbers = [0; 16128];
+    let mut output = rt.stdout();
     let shift = read_shift(
+        &mut rt.stdin(),
+        &mut output,
         &mut markers,
         &mut pairs,
         &mut work_floats,
         &mut work_numbers,
     );
-    let written = write_last(shift, &markers, &pairs, &mut work_floats, &mut work_numbers);
+    let written = write_last(
+        &mut output,
+        shift,
+        &markers,
+        &pairs,
+        &mut work_floats,
+        &mut work_numbers,
+    );
     let phase = shift.phase;
-    complain(phase, written);
+    complain(&mut rt.stderr(), phase, written);
 }

@@ -1,9 +1,10 @@
 -- What a program takes of its input, read by read.
-use Rattle.std.specs.Prelude.{ℕ, zero, suc, ◌+◌, ◌-◌, ◌≤◌, ◌<◌, ◌≡◌, refl, Bool, true, false, cond, List, [], ◌∷◌, ◌++◌, ltb, ℤ, pos, negsuc, length, take}
-use Rattle.std.proofs.Common.{arith, sym, ap, subst, ◌∙◌, true≢false, length-append, length-take-le, lt-ltb, le-ltb, ltb-true, ltb-false}
-use Rattle.std.specs.Int.Signed.{lt_z}
-use Rattle.libc.specs.Io.{Moved}
-use Rattle.io.specs.Counts.{clamp_len}
+use Rattle.std.specs.Prelude.{ℕ, zero, suc, ◌+◌, ◌-◌, ◌≤◌, ◌<◌, ◌≡◌, min, refl, Bool, true, false, cond, Option, None, Some, IfSome, List, [], ◌∷◌, ◌++◌, ltb, length, take}
+use Rattle.std.proofs.Common.{arith, sym, ap, subst, ◌∙◌, true≢false, length-append, length-take, length-take-le, append_assoc, append-nil, ltb-false}
+use Rattle.std.specs.Io.KnownBytes.{Consumes, IsAtEnd}
+use Rattle.streams.specs.declared.calls.Answer.{Answer}
+use Rattle.streams.specs.declared.calls.Answer.TheVariants.{Moved, Failed}
+use Rattle.streams.specs.Calls.{AnsweredWithin, counted, moved, ReadMoves}
 use Rattle.streams.specs.Reads.{ReadCall, read_call, given, ReadsAnswered}
 use Rattle.streams.specs.declared.input.Phase.{Phase}
 use Rattle.streams.specs.declared.input.Phase.TheVariants.{Reading, Whole, TooLong, Unreadable}
@@ -15,10 +16,10 @@ is_reading TooLong = false
 is_reading Unreadable = false
 
 -- after a read that gave n bytes, with which there are b: it failed, or found the end, or gave some; over 2^32 bytes are too long
-abbrev pub phase_after : ℤ → ℕ → ℕ → Bool → Phase
-phase_after (negsuc k) n b enough = Unreadable
-phase_after (pos k) zero b enough = Whole
-phase_after (pos k) (suc n) b enough = cond (ltb 4294967296 b) TooLong (cond enough Whole Reading)
+abbrev pub phase_after : Answer → ℕ → ℕ → Bool → Phase
+phase_after Failed n b enough = Unreadable
+phase_after (Moved k) zero b enough = Whole
+phase_after (Moved k) (suc n) b enough = cond (ltb 4294967296 b) TooLong (cond enough Whole Reading)
 
 -- the bytes that came, and whether there is more to read
 pub record Came : Type 0 where
@@ -46,57 +47,35 @@ module _ (enough : List ℕ → Bool) where
   Wanted [] = Unit {0}
   Wanted (r ∷ rs) = ((came_by rs).phase ≡ Reading) × Wanted rs
 
-  -- x came by some calls of `read`, each lent 65,536 bytes
-  pub record CameBy (x : Came) : Type 0 where
+  -- the last of them moved nothing only if the reader was at its end
+  abbrev pub EndFound : List ReadCall → Option (List ℕ) → Type 0
+  EndFound [] after = Unit {0}
+  EndFound (r ∷ rs) after = r.answer ≡ Moved 0 → IsAtEnd after
+
+  -- x came by some calls of `read`, each lent 65,536 bytes. Of a reader whose bytes are known before and after them it is what it gave.
+  pub record CameBy (before after : Option (List ℕ)) (x : Came) : Type 0 where
     pub reads : List ReadCall
     pub answered : ReadsAnswered 65536 reads
     pub wanted : Wanted reads
     pub came : x ≡ came_by reads
-
--- ---- the phase, by what is asked in turn
-
-pub phase_failed : (got : ℤ) (n b : ℕ) (e : Bool) → lt_z got (pos 0) ≡ true → Unreadable ≡ phase_after got n b e
-phase_failed (negsuc k) n b e h = refl
-phase_failed (pos k) n b e h = absurd (omega (arith, ltb-true k 0 h))
-
-module _ (got : ℤ) (b : ℕ) (e : Bool) (read : lt_z got (pos 0) ≡ false) where
-  pub phase_end : Whole ≡ phase_after got 0 b e
-  phase_end = at got read
-    where
-      at : (z : ℤ) → lt_z z (pos 0) ≡ false → Whole ≡ phase_after z 0 b e
-      at (negsuc k) h = absurd (true≢false h)
-      at (pos k) h = refl
-
-  module _ (n : ℕ) (some : 0 < n) where
-    came : cond (ltb 4294967296 b) TooLong (cond e Whole Reading) ≡ phase_after got n b e
-    came = at got n read some
-      where
-        at : (z : ℤ) (m : ℕ) → lt_z z (pos 0) ≡ false → 0 < m → cond (ltb 4294967296 b) TooLong (cond e Whole Reading) ≡ phase_after z m b e
-        at (negsuc k) m h p = absurd (true≢false h)
-        at (pos k) zero h p = absurd (omega (arith, p))
-        at (pos k) (suc m) h p = refl
-
-    pub phase_over : 4294967296 < b → TooLong ≡ phase_after got n b e
-    phase_over l = rw (lt-ltb _ _ l) at came
-
-    pub phase_few : b ≤ 4294967296 → (t : Bool) → e ≡ t → cond t Whole Reading ≡ phase_after got n b e
-    phase_few l t h = sym (ap (λ (u : Bool). cond u Whole Reading) h) ∙ rw (le-ltb _ _ l) at came
+    pub consumed : Consumes before after x.bytes
+    pub ended : EndFound reads after
 
 -- ---- what a read gave, where n of the buffer's bytes were counted
 
-module _ (enough : List ℕ → Bool) (got : ℤ) (buffer bs : List ℕ) (n : ℕ) (counted : n ≡ clamp_len got (length buffer)) where
+module _ (enough : List ℕ → Bool) (got : Answer) (buffer bs : List ℕ) (n : ℕ) (is : n ≡ counted got (length buffer)) where
   abbrev after : Came
   after = after_read enough (read_call got buffer) bs
 
   pub bytes_after : bs ++ take n buffer ≡ after.bytes
-  bytes_after = ap (λ (m : ℕ). bs ++ take m buffer) counted
+  bytes_after = ap (λ (m : ℕ). bs ++ take m buffer) is
 
   pub length-after : n ≤ length buffer → length after.bytes ≡ length bs + n
   length-after l = sym (ap length bytes_after) ∙ length-append bs (take n buffer) ∙ ap (λ (m : ℕ). length bs + m) (length-take-le n buffer l)
 
   pub phase_is : n ≤ length buffer → (b : ℕ) (e : Bool) → b ≡ length after.bytes → e ≡ enough after.bytes → phase_after got n b e ≡ after.phase
   phase_is l b e h g =
-      let k = sym (length-take-le n buffer l) ∙ ap (λ (m : ℕ). length (take m buffer)) counted in
+      let k = sym (length-take-le n buffer l) ∙ ap (λ (m : ℕ). length (take m buffer)) is in
       rw (h, g) (ap (λ (m : ℕ). phase_after got m (length after.bytes) (enough after.bytes)) k)
 
 -- ---- where there is more to read
@@ -108,26 +87,26 @@ is_reading_lem TooLong e = absurd (true≢false (sym e))
 is_reading_lem Unreadable e = absurd (true≢false (sym e))
 
 -- a read gave bytes, and all that came are few enough
-some-new : (got : ℤ) (n b : ℕ) (e : Bool) → is_reading (phase_after got n b e) ≡ true → 0 < n
-some-new (negsuc k) n b e h = absurd (true≢false (sym h))
-some-new (pos k) zero b e h = absurd (true≢false (sym h))
-some-new (pos k) (suc n) b e h = omega arith
+some-new : (got : Answer) (n b : ℕ) (e : Bool) → is_reading (phase_after got n b e) ≡ true → 0 < n
+some-new Failed n b e h = absurd (true≢false (sym h))
+some-new (Moved k) zero b e h = absurd (true≢false (sym h))
+some-new (Moved k) (suc n) b e h = omega arith
 
-few_came : (got : ℤ) (n b : ℕ) (e : Bool) → is_reading (phase_after got n b e) ≡ true → b ≤ 4294967296
-few_came (negsuc k) n b e h = absurd (true≢false (sym h))
-few_came (pos k) zero b e h = absurd (true≢false (sym h))
-few_came (pos k) (suc n) b e h = go (ltb 4294967296 b) refl
+few_came : (got : Answer) (n b : ℕ) (e : Bool) → is_reading (phase_after got n b e) ≡ true → b ≤ 4294967296
+few_came Failed n b e h = absurd (true≢false (sym h))
+few_came (Moved k) zero b e h = absurd (true≢false (sym h))
+few_came (Moved k) (suc n) b e h = go (ltb 4294967296 b) refl
   where
     go : (t : Bool) → ltb 4294967296 b ≡ t → b ≤ 4294967296
     go false f = ltb-false 4294967296 b f
     go true f = absurd (true≢false (sym (subst (λ (t : Bool). is_reading (cond t TooLong (cond e Whole Reading)) ≡ true) f h)))
 
 -- and they are not enough
-not-enough : (got : ℤ) (n b : ℕ) (e : Bool) → is_reading (phase_after got n b e) ≡ true → e ≡ false
-not-enough (negsuc k) n b e h = absurd (true≢false (sym h))
-not-enough (pos k) zero b e h = absurd (true≢false (sym h))
-not-enough (pos k) (suc n) b false h = refl
-not-enough (pos k) (suc n) b true h = go (ltb 4294967296 b) h
+not-enough : (got : Answer) (n b : ℕ) (e : Bool) → is_reading (phase_after got n b e) ≡ true → e ≡ false
+not-enough Failed n b e h = absurd (true≢false (sym h))
+not-enough (Moved k) zero b e h = absurd (true≢false (sym h))
+not-enough (Moved k) (suc n) b false h = refl
+not-enough (Moved k) (suc n) b true h = go (ltb 4294967296 b) h
   where
     go : (t : Bool) → is_reading (cond t TooLong Whole) ≡ true → true ≡ false
     go true f = absurd (true≢false (sym f))
@@ -137,11 +116,21 @@ not-enough (pos k) (suc n) b true h = go (ltb 4294967296 b) h
 abbrev pub to_read : Phase → ℕ → ℕ
 to_read p n = cond (is_reading p) (4294967297 - n) 0
 
-module _ (enough : List ℕ → Bool) where
-  abbrev pub came-nothing : CameBy enough (came_by enough [])
-  came-nothing = record { reads = []; answered = tt; wanted = tt; came = refl }
+pub consumes_nothing : (known : Option (List ℕ)) → Consumes known known []
+consumes_nothing None = tt
+consumes_nothing (Some xs) = refl
 
-  module _ (x : Came) (by : CameBy enough x) (more : is_reading x.phase ≡ true) where
+pub consumes-then : (a b c : Option (List ℕ)) (xs ys : List ℕ) → Consumes a b xs → Consumes b c ys → Consumes a c (xs ++ ys)
+consumes-then None b c xs ys p q = tt
+consumes-then (Some us) None c xs ys p q = absurd p
+consumes-then (Some us) (Some vs) None xs ys p q = absurd q
+consumes-then (Some us) (Some vs) (Some ws) xs ys p q = p ∙ ap (λ (l : List ℕ). xs ++ l) q ∙ sym (append_assoc xs ys ws)
+
+module _ (enough : List ℕ → Bool) where
+  abbrev pub came-nothing : (known : Option (List ℕ)) → CameBy enough known known (came_by enough [])
+  came-nothing known = record { reads = []; answered = tt; wanted = tt; came = refl; consumed = consumes_nothing known; ended = tt }
+
+  module _ (before now : Option (List ℕ)) (x : Came) (by : CameBy enough before now x) (more : is_reading x.phase ≡ true) where
     pub few_while_reading : length x.bytes ≤ 4294967296
     few_while_reading =
         let e = ap (λ (y : Came). is_reading y.phase) (sym by.came) ∙ more in
@@ -161,20 +150,22 @@ module _ (enough : List ℕ → Bool) where
         wanted (r ∷ rs) h = not-enough r.answer (length (given r)) _ _ h
 
     -- a read more
-    module _ (got : ℤ) (buffer : List ℕ) where
+    module _ (got : Answer) (buffer : List ℕ) where
       abbrev new : List ℕ
       new = given (read_call got buffer)
 
       abbrev next : Came
       next = after_read enough (read_call got buffer) x.bytes
 
-      abbrev pub came-more : length buffer ≡ 65536 → Moved 65536 got → CameBy enough next
-      came-more l m =
+      abbrev pub came-more : (after : Option (List ℕ)) → length buffer ≡ 65536 → AnsweredWithin 65536 got → ReadMoves now after got buffer → CameBy enough before after next
+      came-more after l m moves =
           record {
             reads = read_call got buffer ∷ by.reads;
             answered = ((l, m), by.answered);
             wanted = (ap (λ (y : Came). y.phase) (sym by.came) ∙ is_reading_lem x.phase more, by.wanted);
             came = ap (λ (y : Came). after_read enough (read_call got buffer) y.bytes) by.came;
+            consumed = consumes-then before now after x.bytes new by.consumed moves.0;
+            ended = λ e. moves.1 e (omega (arith, l));
           }
 
       pub less_to-read : to_read next.phase (length next.bytes) < to_read x.phase (length x.bytes)
@@ -183,3 +174,43 @@ module _ (enough : List ℕ → Bool) where
           go : (b : Bool) → is_reading next.phase ≡ b → cond b (4294967297 - length next.bytes) 0 < 4294967297 - length x.bytes
           go true e = omega (arith, few_while_reading, length-append x.bytes new, some-new got (length new) (length next.bytes) (enough next.bytes) e)
           go false e = omega (arith, few_while_reading)
+
+-- ---- all of a reader whose bytes are known
+
+-- a read that ended it, where no byte was enough, gave none
+gave_none : (got : Answer) (n b : ℕ) (e : Bool) → phase_after got n b e ≡ Whole → e ≡ false → (k : ℕ) × ((got ≡ Moved k) × (n ≡ 0))
+gave_none Failed n b e h f = cc
+gave_none (Moved k) zero b e h f = (k, (refl, refl))
+gave_none (Moved k) (suc n) b true h f = cc
+gave_none (Moved k) (suc n) b false h f = go (ltb 4294967296 b) h
+  where
+    go : (t : Bool) → cond t TooLong Reading ≡ Whole → (j : ℕ) × ((Moved k ≡ Moved j) × (suc n ≡ 0))
+    go true g = cc
+    go false g = cc
+
+module _ (enough : List ℕ → Bool) (xs : List ℕ) (after : Option (List ℕ)) where
+  all_gone : (ys : List ℕ) (end : Option (List ℕ)) → Consumes (Some xs) end ys → IsAtEnd end → ys ≡ xs
+  all_gone ys None c e = absurd c
+  all_gone ys (Some zs) c e = sym (c ∙ ap (λ (l : List ℕ). ys ++ l) e ∙ append-nil ys)
+
+  at_end : (rs : List ReadCall) → ReadsAnswered 65536 rs → EndFound enough rs after → (came_by enough rs).phase ≡ Whole → enough (came_by enough rs).bytes ≡ false → IsAtEnd after
+  at_end [] a f w e = absurd (let z : ⊥ = cc in z)
+  at_end (r ∷ rs) a f w e =
+      let (k, (is, none)) = gave_none r.answer (length (given r)) _ _ w e in
+      let answered : k ≤ 65536 = subst (AnsweredWithin 65536) is a.0.1 in
+      let few : length (take (min k (length r.buffer)) r.buffer) ≡ 0 = subst (λ (g : Answer). length (moved g r.buffer) ≡ 0) is none in
+      let zero_moved : k ≡ 0 = omega (arith, few, length-take (min k (length r.buffer)) r.buffer, a.0.0, answered) in
+      f (is ∙ ap (λ (n : ℕ). Moved n) zero_moved)
+
+  -- the whole input is all that the reader had
+  pub whole_came : (x : Came) → CameBy enough (Some xs) after x → x.phase ≡ Whole → enough x.bytes ≡ false → x.bytes ≡ xs
+  whole_came x by w e =
+      let p = ap (λ (y : Came). y.phase) (sym by.came) ∙ w in
+      let n = ap (λ (y : Came). enough y.bytes) (sym by.came) ∙ e in
+      all_gone x.bytes after by.consumed (at_end by.reads by.answered by.ended p n)
+
+-- of any reader: nothing is said where its bytes are not known
+pub all_came : (enough : List ℕ → Bool) (before after : Option (List ℕ)) (x : Came) → CameBy enough before after x → x.phase ≡ Whole → enough x.bytes ≡ false
+    → IfSome before (λ xs. x.bytes ≡ xs)
+all_came enough None rest x by w e = tt
+all_came enough (Some xs) rest x by w e = whole_came enough xs rest x by w e

@@ -1,20 +1,20 @@
 -- A call of `read`: what it answered, and what its buffer held then.
-use Rattle.std.specs.Prelude.{ℕ, ◌≡◌, List, [], ◌∷◌, ℤ, length, take}
-use Rattle.libc.specs.Io.{Moved}
-use Rattle.io.specs.Counts.{clamp_len}
+use Rattle.std.specs.Prelude.{ℕ, ◌≡◌, List, [], ◌∷◌, length}
+use Rattle.streams.specs.declared.calls.Answer.{Answer}
+use Rattle.streams.specs.Calls.{AnsweredWithin, moved}
 
 pub record ReadCall : Type 0 where
-  pub answer : ℤ
+  pub answer : Answer
   pub buffer : List ℕ
 
-abbrev pub read_call : ℤ → List ℕ → ReadCall
+abbrev pub read_call : Answer → List ℕ → ReadCall
 read_call got buffer = record { answer = got; buffer = buffer }
 
 -- the bytes that it gave: none where it failed, or where the input has ended
 abbrev pub given : ReadCall → List ℕ
-given r = take (clamp_len r.answer (length r.buffer)) r.buffer
+given r = moved r.answer r.buffer
 
 -- each was lent n bytes, and answered what it may
 abbrev pub ReadsAnswered : ℕ → List ReadCall → Type 0
 ReadsAnswered n [] = Unit {0}
-ReadsAnswered n (r ∷ rs) = ((length r.buffer ≡ n) × Moved n r.answer) × ReadsAnswered n rs
+ReadsAnswered n (r ∷ rs) = ((length r.buffer ≡ n) × AnsweredWithin n r.answer) × ReadsAnswered n rs

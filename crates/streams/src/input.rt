@@ -2,6 +2,8 @@
 ghost use Rattle.std.specs.Prelude.{◌≡◌};
 ghost use Rattle.streams.specs.Input.{is_reading, phase_after};
 
+use crate::calls::Answer;
+
 // The most bytes that a program takes in: input without end would not end otherwise.
 const MOST_BYTES: u64 = 4294967296;
 
@@ -26,10 +28,10 @@ pub fn is_reading(phase: Phase) -> bool
 }
 
 // After a `read` that answered `got` and gave n bytes, with which there are `bytes`. Where these are enough no further byte counts.
-pub fn phase_after(got: isize, n: usize, bytes: u64, enough: bool) -> Phase
+pub fn phase_after(got: Answer, n: usize, bytes: u64, enough: bool) -> Phase
     ensures { result ≡ phase_after got n bytes enough }
 {
-    if got < 0 {
+    if let Answer::Failed = got {
         return Phase::Unreadable;
     }
     if n == 0 {

@@ -1,8 +1,11 @@
-// What programs do with the streams that they are given. No contract of the kit says which bytes a call of C moves: these speak of what `read` and `write`
-// answered.
+// What programs do with the streams that they are given. What a reader or a writer of the system moves no contract can say: of those the contracts here speak
+// by what `read` and `write` answered. Where a reader's or a writer's bytes are known, they say which bytes moved.
 #![tactic(auto)]
+
+mod calls;
 mod input;
 mod output;
 
+pub use calls::{Answer, count, read_full, read_some, write_some};
 pub use input::{Phase, is_reading, phase_after};
 pub use output::hand_over;

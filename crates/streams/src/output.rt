@@ -1,14 +1,19 @@
 // A text is handed to `write`, as often as it takes.
-ghost use Rattle.streams.specs.Writes.{HandedOver};
+ghost use Rattle.streams.specs.Writes.{HandedOver, HandedOn};
+
+use crate::calls::{count, write_some};
+use std::io::Write;
 
 // Whether all of the text was handed over, each call of `write` being given what those before it left. It ends at the first that takes nothing or fails.
-pub fn hand_over(to: i32, text: &[u8]) -> bool
-    ensures { HandedOver text.now result }
+pub fn hand_over<W: Write>(to: &mut W, text: &[u8]) -> bool
+    ensures calls { HandedOver text.now result }
+    ensures bytes { HandedOn (W.contents to.old) (W.contents to.new) text.now result }
 {
     let mut done = 0;
     while done < text.len() {
         let rest = &text[done..];
-        let took = io::count(libc::write(to, rest), rest);
+        let answer = write_some(to, rest);
+        let took = count(answer, rest);
         if took == 0 {
             return false;
         }

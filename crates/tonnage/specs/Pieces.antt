@@ -42,7 +42,7 @@ module _ (csv bs : List ℕ) (w : Weighing) (ms ps sums : List ℕ) (h : Weighs 
           tally = tally_settled csv bs (take (length piece) piece) w.tally sums e h.tally;
           held = λ f. absurd (true≢false (sym f ∙ e));
           markers_now = h.markers_now;
-          pairs-now = h.pairs-now;
+          pairs_now = h.pairs_now;
         };
       }
 
@@ -63,7 +63,7 @@ module _ (csv bs : List ℕ) (w : Weighing) (ms ps sums : List ℕ) (h : Weighs 
                 tally = subst (λ (es : List (List ℕ)). HoldsTally csv es w.tally sums) (sym o.0) h.tally;
                 held = λ f. subst (λ (l : List ℕ). OpenIn l i ns qs) (sym o.1) took.1;
                 markers_now = took.1.taken.taken.markers_now;
-                pairs-now = took.1.taken.taken.pairs-now;
+                pairs_now = took.1.taken.taken.pairs_now;
               });
         }
 
@@ -79,7 +79,7 @@ module _ (csv bs : List ℕ) (w : Weighing) (ms ps sums : List ℕ) (h : Weighs 
               tally = subst (λ (es : List (List ℕ)). HoldsTally csv es t us) (sym e.0) g;
               held = λ f. subst (λ (l : List ℕ). OpenIn l j ns qs) (sym e.1) o;
               markers_now = took.3.taken.markers_now;
-              pairs-now = took.3.taken.pairs-now;
+              pairs_now = took.3.taken.pairs_now;
             };
           }
 
@@ -89,7 +89,7 @@ pub weighs_none :
     Weighs csv [] (weighing_of t i) ms ps sums
 unfolding bales
 weighs_none csv t i ms ps sums z h k =
-    record { tally = subst (HoldsTally csv [] t) (sym z) h; held = λ e. none_open i ms ps k; markers_now = k.taken.markers_now; pairs-now = k.taken.pairs-now }
+    record { tally = subst (HoldsTally csv [] t) (sym z) h; held = λ e. none_open i ms ps k; markers_now = k.taken.markers_now; pairs_now = k.taken.pairs_now }
 
 -- ---- a piece of which k bytes were taken in
 

@@ -11,7 +11,7 @@ pub record Weighs (csv bs : List ℕ) (w : Weighing) (ms ps sums : List ℕ) : T
   pub tally : HoldsTally csv (ended_bales bs) w.tally sums
   pub held : is_waiting w.tally.standing ≡ true → OpenIn (open_bale bs) w.input ms ps
   pub markers_now : length ms ≡ 24
-  pub pairs-now : length ps ≡ 140
+  pub pairs_now : length ps ≡ 140
 
 -- n bytes more can be counted
 pub record SomeWeighs (csv : List ℕ) (w : Weighing) (ms ps sums : List ℕ) (n : ℕ) : Type 0 where

@@ -1,4 +1,4 @@
-// Tonnage by grade, as programs in C and Rust link it: include/tonnage.h declares the function. A slice is a pointer and a length there.
+// Tonnage by grade, as programs in C and Rust call it: the crate tonnage_c exports the function.
 #![tactic(auto)]
 
 ghost use Rattle.std.specs.Prelude.{◌≡◌, ◌≤◌, length};
@@ -37,8 +37,7 @@ fn set_totals(sums: &[u64], totals: &mut [u64])
 }
 
 // The totals are set, not added to, and a refusal leaves them as they were.
-#[unsafe(no_mangle)]
-pub extern "C" fn tonnage_by_grade(csv: &[u8], shift: &[u8], totals: &mut [u64]) -> Reply
+pub fn tonnage_by_grade(csv: &[u8], shift: &[u8], totals: &mut [u64]) -> Reply
     ensures { Replies result totals.new (tonnage_by_grade csv.now shift.now totals.old) }
 {
     if totals.len() < GRADES {

@@ -30,10 +30,10 @@ pub record Turn (end : ℕ) (words : List ℕ) (l : Answers) (at number beliefs 
   pub next_in : at + (3 + 3 * get_or words at 0 + 7 * get_or words (at + 1) 0) ≤ end
   pub end_in : end ≤ length words
   pub number_small : number < 4294967296
-  pub belief_numbers_lem : beliefs ≤ length l.belief_numbers
-  pub belief_floats_lem : 2 * beliefs ≤ length l.belief_floats
-  pub ending-numbers : 4 * endings ≤ length l.ending_numbers
-  pub ending_floats_lem : endings ≤ length l.ending_floats
+  pub belief_numbers : beliefs ≤ length l.belief_numbers
+  pub belief_floats : 2 * beliefs ≤ length l.belief_floats
+  pub ending_numbers : 4 * endings ≤ length l.ending_numbers
+  pub ending_floats : endings ≤ length l.ending_floats
 
 records_split : (b : Bale) (ps qs : List (List Node)) → concat (map (component_words b) (ps ++ qs)) ≡ concat (map (component_words b) ps) ++ concat (map (component_words b) qs)
 records_split b ps qs = ap concat (map-append (component_words b) ps qs) ∙ concat_append (map (component_words b) ps) (map (component_words b) qs)
@@ -141,10 +141,10 @@ module _ (s : Settings) (start count end : ℕ) (evidence : List Float) (floats�
         next_in = omega (arith, next-is, record_in);
         end_in = end_in;
         number_small = omega (arith, there, z.components, z.nodes);
-        belief_numbers_lem = omega (arith, F.belief_numbers, W.beliefs_are, S.belief_numbers);
-        belief_floats_lem = omega (arith, F.belief_floats, W.beliefs_are, S.belief_floats);
-        ending-numbers = omega (arith, F.ending_numbers, W.endings_are, S.ending_numbers);
-        ending_floats_lem = omega (arith, F.ending_floats, W.endings_are, S.ending_floats);
+        belief_numbers = omega (arith, F.belief_numbers, W.beliefs_are, S.belief_numbers);
+        belief_floats = omega (arith, F.belief_floats, W.beliefs_are, S.belief_floats);
+        ending_numbers = omega (arith, F.ending_numbers, W.endings_are, S.ending_numbers);
+        ending_floats = omega (arith, F.ending_floats, W.endings_are, S.ending_floats);
       }
 
   -- and it is answered
@@ -197,10 +197,10 @@ module _ (s : Settings) (start count end : ℕ) (evidence : List Float) (floats�
         words-kept = front-back words₀ words x at end (omega (arith, r.next_in)) r.end_in L.words-kept kept;
         number-le = omega arith;
         sizes = record {
-          belief_numbers = back_long l.belief_numbers beliefs y.belief_numbers r.belief_numbers_lem same.belief_numbers ∙ L.sizes.belief_numbers;
-          belief_floats = back_long l.belief_floats (2 * beliefs) y.belief_floats r.belief_floats_lem same.belief_floats ∙ L.sizes.belief_floats;
-          ending_numbers = back_long l.ending_numbers (4 * endings) y.ending_numbers r.ending-numbers same.ending_numbers ∙ L.sizes.ending_numbers;
-          ending_floats = back_long l.ending_floats endings y.ending_floats r.ending_floats_lem same.ending_floats ∙ L.sizes.ending_floats;
+          belief_numbers = back_long l.belief_numbers beliefs y.belief_numbers r.belief_numbers same.belief_numbers ∙ L.sizes.belief_numbers;
+          belief_floats = back_long l.belief_floats (2 * beliefs) y.belief_floats r.belief_floats same.belief_floats ∙ L.sizes.belief_floats;
+          ending_numbers = back_long l.ending_numbers (4 * endings) y.ending_numbers r.ending_numbers same.ending_numbers ∙ L.sizes.ending_numbers;
+          ending_floats = back_long l.ending_floats endings y.ending_floats r.ending_floats same.ending_floats ∙ L.sizes.ending_floats;
         };
         going = λ b C.
             subst (λ (n : ℕ). Going s b start l₀ n (number + 1) (beliefs + m) (endings + k) (joined beliefs endings l y)) (sym en)

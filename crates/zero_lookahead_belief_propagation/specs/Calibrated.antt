@@ -9,7 +9,6 @@ use Rattle.definition.specs.Answer.{answer}
 use Rattle.graph_laws.specs.Ranks.{NoDup}
 use Rattle.graph_laws.specs.Names.{Valid}
 use Rattle.graph_laws.specs.Accepted.{Passes, passes_all, valid, pairs_apart}
-use Rattle.graph_laws.specs.CallLengths.{room}
 use Rattle.list_laws.specs.Part.{region}
 use Rattle.list_laws.specs.Write.{length-write, write-below}
 use Rattle.list_laws.specs.Put.{put, length-put, put_in, put-below, region-all}

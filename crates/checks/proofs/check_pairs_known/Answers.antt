@@ -1,5 +1,5 @@
 -- `checks::check_pairs_known` meets its contract. The loop's invariant: no pair before this one fails.
-use Prim.Native.Nat.{◌<◌, ◌-◌}
+use Prim.Native.Nat.{◌<◌}
 use native.Mathlib.Omega.{arith}
 use mathlib.Core.List.{map}
 use mathlib.Core.Path.{refl, sym, ◌∙◌}

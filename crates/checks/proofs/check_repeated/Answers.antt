@@ -1,5 +1,5 @@
 -- `checks::check_repeated` meets its contract. The loop's invariant: the marks are those of the pairs passed, none of which was given before.
-use Prim.Native.Nat.{ℕ, ◌<◌, ◌-◌}
+use Prim.Native.Nat.{ℕ, ◌<◌}
 use native.Mathlib.Omega.{arith}
 use mathlib.Core.Bool.{false}
 use mathlib.Core.List.{[]}

@@ -1,5 +1,5 @@
 -- `checks::check_shared` meets its contract. The loop's invariant: no marker before this one has too many grades.
-use Prim.Native.Nat.{◌≤◌, ◌<◌, ◌-◌}
+use Prim.Native.Nat.{◌≤◌, ◌<◌}
 use native.Mathlib.Omega.{arith}
 use mathlib.Core.List.{map}
 use mathlib.Core.Path.{refl, ◌∙◌}

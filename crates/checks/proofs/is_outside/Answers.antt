@@ -11,6 +11,6 @@ pub returns : goal.returns
 unfolding outside
 returns c =
     elim c.else-least-x.branch [
-      else-least-x-via-then-least-x+else-x-greatest w ↦ simp (w.if-least-x.true, w.if-x-greatest.false)
-    | else-least-x-via-else-least-x w ↦ simp w.if-least-x.false
+      | else-least-x-via-then-least-x+else-x-greatest w ↦ simp (w.if-least-x.true, w.if-x-greatest.false)
+      | else-least-x-via-else-least-x w ↦ simp w.if-least-x.false
     ]

@@ -1,5 +1,4 @@
 -- `priorities::first_largest` meets its contract: a descent from the root.
-use Prim.Native.Nat.{◌-◌}
 use native.Mathlib.Omega.{arith}
 use Rattle.priorities.specs.Descent.{descent_start, descent_left, descent_right, descent_end}
 use Rattle.priorities.proofs.first_largest.Goals as goal

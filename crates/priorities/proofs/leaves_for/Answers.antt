@@ -1,5 +1,4 @@
 -- `priorities::leaves_for` meets its contract: w runs through the powers of two.
-use Prim.Native.Nat.{◌-◌}
 use native.Mathlib.Omega.{arith}
 use Rattle.priorities.specs.Leaves.{doubling_start, doubling_next, doubling_end}
 use Rattle.priorities.proofs.leaves_for.Goals as goal

@@ -1,5 +1,5 @@
 -- `readers::find` meets its contract. The loop's invariant: no lower read before this one is open.
-use Prim.Native.Nat.{◌<◌, ◌-◌}
+use Prim.Native.Nat.{◌<◌}
 use mathlib.Core.Path.{refl, sym, ◌∙◌}
 use borrow.Author.Tests.{ltb-true}
 use lib.ListN.{length}

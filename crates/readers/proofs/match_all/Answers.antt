@@ -1,5 +1,5 @@
 -- `readers::match_all` meets its contract. The loop's invariant: `Running`.
-use Prim.Native.Nat.{◌/◌, ◌≤◌, ◌-◌}
+use Prim.Native.Nat.{◌/◌, ◌≤◌}
 use native.Mathlib.Numerals.{add-one}
 use mathlib.Core.Path.{◌≡◌, refl}
 use lib.ListN.{length}

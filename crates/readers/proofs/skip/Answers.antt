@@ -1,5 +1,4 @@
 -- `readers::skip` meets its contract. The loop's invariant: all lower reads before this one are passed.
-use Prim.Native.Nat.{◌-◌}
 use mathlib.Core.Path.{refl, sym, ◌∙◌}
 use Rattle.definition.specs.Readers.{reads_of}
 use Rattle.readers.specs.Slices.{length-reads}

@@ -1,5 +1,5 @@
 -- `add_bale` meets its contract. The loop's invariant: with the beliefs from the i-th on, the totals become what all of them make of the first.
-use Prim.Native.Nat.{◌-◌, ◌<◌}
+use Prim.Native.Nat.{◌<◌}
 use native.Mathlib.Omega.{arith}
 use lib.ListN.{length, get_or}
 use Rattle.shares.specs.Adding.{added, adding_starts, adding-next, adding-ends, sum_fits}

@@ -1,6 +1,5 @@
 -- `weights::read_number` meets its contract. The loop's invariant: what is read so far, and the bytes from place i on, give the whole number.
 use mathlib.Core.Path.{sym, ap, ◌∙◌}
-use Prim.Native.Nat.{◌-◌}
 use borrow.Author.Tests.{eq-eqb, ne_eqb}
 use Rattle.weights.specs.Reading.{digit_of, reading_starts, reading_next, reading_stops, reading_out, reading_nothing, reading_ends}
 use Rattle.weights.proofs.read_number.Goals as goal

@@ -1,6 +1,6 @@
 -- `array_utils::exponential::exp_series` meets its contract: what is left of the series at h, after j, is the whole of it.
 use mathlib.Core.Path.{◌≡◌}
-use Prim.Native.Nat.{◌-◌, ◌≤◌}
+use Prim.Native.Nat.{◌≤◌}
 use Rattle.definition.specs.Floats.{oneᶠ, exp_series}
 use Rattle.array_utils.proofs.exponential.exp_series.Given as goal
 

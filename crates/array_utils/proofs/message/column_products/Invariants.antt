@@ -4,7 +4,6 @@ use Prim.Native.Nat.{◌-◌, ◌/◌, ◌≤◌}
 use lib.ListN.{length, take}
 use Rattle.definition.specs.Vectors.{product_of}
 use Rattle.array_utils.specs.Columns.{absents, presents}
-use Rattle.array_utils.specs.Columns as columns
 use Rattle.array_utils.proofs.message.column_products.Given as goal
 
 abbrev pub invariant-loop-i : goal.invariant-loop-i

@@ -1,5 +1,4 @@
 -- `array_utils::message::sum_logs_batched` meets its contract: what is left of the blocks, from the sums so far, is the whole.
-use Prim.Native.Nat.{◌-◌}
 use native.Mathlib.Omega.{arith}
 use lib.Ieee.{of_bits}
 use Rattle.array_utils.specs.Columns as columns

@@ -1,6 +1,5 @@
 -- `array_utils::table::table_entries` meets its contract: after i turns the first i entries are those of the table.
 use mathlib.Core.Bool.{false}
-use Prim.Native.Nat.{◌-◌}
 use native.Mathlib.Omega.{arith}
 use lib.IntN.{pos}
 use lib.ListN.{length-set, length-replicate, get_or}

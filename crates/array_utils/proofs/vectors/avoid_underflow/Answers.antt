@@ -1,6 +1,6 @@
 -- `array_utils::vectors::avoid_underflow` meets its contract: after i turns the first i entries are raised.
 use mathlib.Core.Path.{refl, ap, ◌∙◌}
-use Prim.Native.Nat.{◌+◌, ◌-◌}
+use Prim.Native.Nat.{◌+◌}
 use native.Mathlib.Omega.{arith}
 use lib.ListN.{length}
 use lib.Ieee.{nan}

@@ -1,6 +1,6 @@
 -- `array_utils::vectors::sum` meets its contract: after i turns the sum is that of the first i entries.
 use mathlib.Core.Path.{sym, ap, ◌∙◌}
-use Prim.Native.Nat.{ℕ, ◌-◌}
+use Prim.Native.Nat.{ℕ}
 use native.Mathlib.Numerals.{add-one}
 use native.Mathlib.Omega.{arith}
 use lib.ListN.{take, get_or}

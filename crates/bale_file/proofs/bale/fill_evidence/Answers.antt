@@ -1,5 +1,5 @@
 -- `bale_file::bale::fill_evidence` meets its contract. The loop's invariant: the words before this one are laid.
-use Prim.Native.Nat.{ℕ, ◌-◌}
+use Prim.Native.Nat.{ℕ}
 use native.Mathlib.Omega.{arith}
 use mathlib.Core.Path.{◌≡◌, refl, ap, ◌∙◌}
 use lib.ListN.{length-set, take}
@@ -12,8 +12,8 @@ pub loop-i-init : goal.loop-i-init
 loop-i-init c =
     let a = c.args in
     elim c.if-words-room.branch [
-      then-words-room w ↦ (omega arith, omega arith, omega arith, laid-words _ _ c.if-words-room.n a.words.now a.evidence.now (omega arith) (omega arith), refl, refl)
-    | else-words-room w ↦ (omega arith, omega arith, omega arith, laid_room _ _ c.if-words-room.n a.words.now a.evidence.now (omega arith), refl, refl)
+      | then-words-room w ↦ (omega arith, omega arith, omega arith, laid-words _ _ c.if-words-room.n a.words.now a.evidence.now (omega arith) (omega arith), refl, refl)
+      | else-words-room w ↦ (omega arith, omega arith, omega arith, laid_room _ _ c.if-words-room.n a.words.now a.evidence.now (omega arith), refl, refl)
     ]
 
 pub absent-requires : goal.absent-requires

@@ -1,5 +1,4 @@
 -- `bale_file::decoder::feed` meets its contract. The loop's invariant: feeding the bytes that are left gives what feeding all gives.
-use Prim.Native.Nat.{◌-◌}
 use native.Mathlib.Omega.{arith}
 use mathlib.Core.Path.{◌∙◌, refl}
 use lib.ListN.{drop_of_length-le}

@@ -1,5 +1,4 @@
 -- `bale_file::decoder::feed_bale` meets its contract. The loop's invariant: what is fed of the bytes that are left, counted from the first, is what is fed of all.
-use Prim.Native.Nat.{◌-◌}
 use native.Mathlib.Nat.{zero-add}
 use native.Mathlib.Omega.{arith}
 use mathlib.Core.Path.{◌∙◌, refl, sym}

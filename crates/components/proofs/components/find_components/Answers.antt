@@ -1,6 +1,5 @@
 -- `factor_graph::components::find_components` meets its contract.
 use mathlib.Core.Path.{refl, sym, ◌∙◌}
-use mathlib.Core.Bool.{true}
 use Prim.Native.Nat.{◌-◌, ◌+◌}
 use native.Mathlib.Omega.{arith}
 use Rattle.components.specs.ComponentMemory.{memory}

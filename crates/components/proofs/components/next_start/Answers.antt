@@ -1,6 +1,5 @@
 -- `factor_graph::components::next_start` meets its contract.
 use mathlib.Core.Path.{refl, sym, ◌∙◌}
-use Prim.Native.Nat.{◌-◌}
 use native.Mathlib.Omega.{arith}
 use Rattle.components.specs.ComponentMemory.{read_node_number}
 use Rattle.components.specs.ComponentStep.{next_found, next-passed, next-end}

@@ -1,6 +1,6 @@
 -- `factor_graph::components::visit_neighbours` meets its contract.
 use mathlib.Core.Path.{◌≡◌, refl, sym, ◌∙◌}
-use Prim.Native.Nat.{◌-◌, ◌+◌}
+use Prim.Native.Nat.{◌+◌}
 use native.Mathlib.Omega.{arith}
 use Rattle.components.specs.ComponentWalk.{first_of}
 use Rattle.components.specs.ComponentVisit.{last-bound, after_none, after-all, slot_there, other_is, after_next, meeting}

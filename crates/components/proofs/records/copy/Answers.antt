@@ -1,6 +1,5 @@
 -- `factor_graph::records::copy` meets its contract.
 use mathlib.Core.Path.{◌≡◌, refl}
-use Prim.Native.Nat.{◌-◌}
 use native.Mathlib.Omega.{arith}
 use lib.ListN.{length-set}
 use Rattle.list_laws.specs.Write.{write-none, write-next, kept-below}

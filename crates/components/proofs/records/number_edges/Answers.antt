@@ -1,6 +1,5 @@
 -- `factor_graph::records::number_edges` meets its contract.
 use mathlib.Core.Path.{◌≡◌, refl, ◌∙◌}
-use Prim.Native.Nat.{◌-◌}
 use native.Mathlib.Omega.{arith}
 use lib.ListN.{length-set}
 use Rattle.components.specs.ComponentEdges.{slot_edge, slot_asks, slot_next, see_none}

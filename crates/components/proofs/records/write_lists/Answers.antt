@@ -1,6 +1,5 @@
 -- `factor_graph::records::write_lists` meets its contract.
 use mathlib.Core.Path.{◌≡◌, refl, sym, ◌∙◌}
-use Prim.Native.Nat.{◌-◌}
 use native.Mathlib.Omega.{arith}
 use lib.ListN.{length-set}
 use Rattle.components.specs.ComponentMemory.{memory}

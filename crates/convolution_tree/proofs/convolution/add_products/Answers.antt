@@ -1,6 +1,5 @@
 -- `convolution_tree::add_products` meets its contract: after j turns the first j products are added.
 use mathlib.Core.Path.{refl, ap, ◌∙◌}
-use Prim.Native.Nat.{◌-◌}
 use native.Mathlib.Omega.{arith}
 use lib.ListN.{length-set}
 use lib.Seq.{take_all}

@@ -1,6 +1,6 @@
 -- `convolution_tree::clear` meets its contract: after k turns the first k entries are zero.
 use mathlib.Core.Path.{refl, ap, ◌∙◌}
-use Prim.Native.Nat.{◌+◌, ◌-◌}
+use Prim.Native.Nat.{◌+◌}
 use native.Mathlib.Omega.{arith}
 use lib.ListN.{length}
 use lib.Ieee.{Float, of_bits, nan}

@@ -1,6 +1,6 @@
 -- `convolution_tree::normalize_messages` meets its contract: after i turns the first i messages are normalised.
 use mathlib.Core.Path.{◌≡◌, refl, ap, ◌∙◌}
-use Prim.Native.Nat.{ℕ, ◌-◌}
+use Prim.Native.Nat.{ℕ}
 use native.Mathlib.Omega.{arith}
 use lib.ListN.{length-set}
 use Rattle.list_laws.specs.Put.{put}

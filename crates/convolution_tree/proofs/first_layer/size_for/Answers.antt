@@ -1,6 +1,5 @@
 -- `convolution_tree::size_for` meets its contract: after each turn there are 2 ^ layers leaves.
 use mathlib.Core.Path.{refl}
-use Prim.Native.Nat.{◌-◌}
 use native.Mathlib.Omega.{arith}
 use Rattle.convolution_tree.specs.Leaves.{size-turn, size-end, size_small}
 use Rattle.convolution_tree.proofs.first_layer.size_for.Goals as goal

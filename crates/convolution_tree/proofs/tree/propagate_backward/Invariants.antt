@@ -1,6 +1,5 @@
 -- `convolution_tree::propagate_backward` meets its contract: the loop goes from the root, layer `layers`, down to the leaves, layer 0.
 use mathlib.Core.Path.{◌≡◌}
-use Prim.Native.Nat.{◌-◌}
 use lib.ListN.{replicate}
 use Rattle.definition.specs.Floats.{zeroᶠ}
 use Rattle.convolution_tree.specs.WayDown.{Descending}

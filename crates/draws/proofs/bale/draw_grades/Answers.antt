@@ -1,5 +1,4 @@
 -- `bale::draw_grades` meets its contract. The loop's invariant: the grades before g have drawn.
-use Prim.Native.Nat.{◌-◌}
 use mathlib.Core.Path.{◌≡◌}
 use native.Mathlib.Omega.{arith}
 use Rattle.definition.specs.Trials.{draw_each}

@@ -1,5 +1,5 @@
 -- `bale::draw_marker` meets its contract. The loop's invariant: the marker has drawn against beta and k times against alpha.
-use Prim.Native.Nat.{ℕ, ◌-◌}
+use Prim.Native.Nat.{ℕ}
 use mathlib.Core.Path.{◌≡◌, ap, ◌∙◌}
 use native.Mathlib.Omega.{arith}
 use Rattle.draws.specs.Model.{drawn_of, setting_in, read_drawn}

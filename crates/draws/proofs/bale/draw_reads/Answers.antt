@@ -1,5 +1,4 @@
 -- `bale::draw_reads` meets its contract. The loop's invariant: the markers before m have drawn.
-use Prim.Native.Nat.{◌-◌}
 use mathlib.Core.Path.{◌≡◌}
 use native.Mathlib.Omega.{arith}
 use Rattle.definition.specs.Trials.{draw_reads}

@@ -1,6 +1,5 @@
 -- `nodes::count_up` meets its contract. Assumes nothing.
 use mathlib.Core.Path.{sym, ◌∙◌}
-use Prim.Native.Nat.{◌-◌}
 use Rattle.definition.specs.Lists.{range}
 use Rattle.factor_graph.specs.BuildNodes.{store_start, store_turn, store_done, get_d_range}
 use Rattle.factor_graph.specs.BuildSums.{length-range}

@@ -1,6 +1,5 @@
 -- `nodes::fill` meets its contract. Assumes nothing.
 use mathlib.Core.Path.{sym}
-use Prim.Native.Nat.{◌-◌}
 use lib.ListN.{replicate, length-replicate, get_or-replicate}
 use Rattle.factor_graph.specs.BuildNodes.{store_start, store_turn, store_done}
 use native.Mathlib.Omega.{arith}

@@ -1,6 +1,4 @@
 -- `nodes::tree_labels` meets its contract. Assumes nothing.
-use Prim.Native.Nat.{◌-◌}
-use mathlib.Core.Logic.{⊎_elim}
 use borrow.Author.Tests.{le-leb, lt-leb}
 use Rattle.factor_graph.specs.BuildNodes.{label-start, label_room, label-turn, label_pass, label_done}
 use native.Mathlib.Omega.{arith}

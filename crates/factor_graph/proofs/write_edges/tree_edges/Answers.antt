@@ -1,5 +1,4 @@
 -- `write_edges::tree_edges` meets its contract. The edges that are left, pushed, give them all. Assumes nothing.
-use Prim.Native.Nat.{◌-◌}
 use Rattle.factor_graph.specs.BuildEdges.{tree-start, tree_head, tree-turn, tree_done}
 use native.Mathlib.Omega.{arith}
 use Rattle.factor_graph.proofs.write_edges.tree_edges.Goals as goal

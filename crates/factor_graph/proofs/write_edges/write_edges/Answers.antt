@@ -1,5 +1,4 @@
 -- `write_edges::write_edges` meets its contract. The edges of the markers that are left, pushed, give them all. Assumes nothing.
-use Prim.Native.Nat.{◌-◌}
 use Rattle.factor_graph.specs.BuildEdges.{marker_room, marker_part, marker_lent, marker_k, marker_tree, marker_turn, markers_start, markers_done}
 use native.Mathlib.Omega.{arith}
 use Rattle.factor_graph.proofs.write_edges.write_edges.Goals as goal

@@ -3,7 +3,6 @@ use lib.ListN.{length-set}
 use Rattle.list_laws.specs.Write.{write-none, write-next}
 use Rattle.listing.specs.Writing.{field-length, written_word, written_next}
 use mathlib.Core.Path.{refl}
-use Prim.Native.Nat.{◌-◌}
 use native.Mathlib.Omega.{arith}
 use Rattle.listing.proofs.fields.put_word.Goals as goal
 

@@ -1,6 +1,5 @@
 -- `listing::parts::put_beliefs` meets its contract.
 use mathlib.Core.Path.{refl}
-use Prim.Native.Nat.{◌-◌}
 use native.Mathlib.Omega.{arith}
 use Rattle.definition.specs.Listing.{belief_lines}
 use Rattle.listing.specs.Beliefs.{NextBelief, next_belief, all-beliefs, no_beliefs}

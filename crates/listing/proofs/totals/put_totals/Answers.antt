@@ -1,5 +1,4 @@
 -- `listing::totals::put_totals` meets its contract.
-use Prim.Native.Nat.{◌-◌}
 use native.Mathlib.Omega.{arith}
 use Rattle.listing.specs.Totals.{no_totals, total_skipped, total-fits, total-put, all_totals}
 use Rattle.listing.proofs.totals.put_totals.Goals as goal

@@ -1,5 +1,5 @@
 -- `messages::directions::fill_directions` meets its contract. Whatever graph the record is of: after n turns its rows are filled up to the first direction of node n.
-use Prim.Native.Nat.{ℕ, ◌+◌, ◌*◌, ◌-◌}
+use Prim.Native.Nat.{ℕ, ◌+◌, ◌*◌}
 use native.Mathlib.Omega.{arith}
 use mathlib.Core.Path.{refl, sym, ap, ◌∙◌, subst}
 use mathlib.Core.List.{List}

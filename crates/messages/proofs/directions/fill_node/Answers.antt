@@ -1,7 +1,7 @@
 -- `messages::directions::fill_node` meets its contract. Whatever graph the record is of: after each turn its rows are filled up to direction d.
 use Rattle.messages.specs.Directions.{Filled}
 use Rattle.messages.specs.DirectionsSteps.{turn-behind, turn_room, turn_mono, turn-fits, turn-next}
-use Prim.Native.Nat.{ℕ, ◌-◌}
+use Prim.Native.Nat.{ℕ}
 use native.Mathlib.Omega.{arith}
 use mathlib.Core.Path.{◌≡◌, refl, sym, ◌∙◌, subst}
 use Rattle.messages.proofs.directions.fill_node.Goals as goal

@@ -1,6 +1,5 @@
 -- `messages::rebuild::change_exceeds` meets its contract: what is left of both, from the sum so far, decides.
 use mathlib.Core.Path.{◌≡◌, refl, ap, ◌∙◌}
-use Prim.Native.Nat.{◌-◌}
 use native.Mathlib.Omega.{arith}
 use lib.Ieee.{Float, of_bits}
 use Rattle.definition.specs.Floats.{◌⊕◌}

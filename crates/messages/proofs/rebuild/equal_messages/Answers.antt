@@ -1,6 +1,5 @@
 -- `messages::rebuild::equal_messages` meets its contract: what is left of both decides.
 use mathlib.Core.Path.{refl, ◌∙◌}
-use Prim.Native.Nat.{◌-◌}
 use native.Mathlib.Omega.{arith}
 use Rattle.messages.specs.Rebuild.{equal_turn, equal_not, equal_all}
 use Rattle.messages.proofs.rebuild.equal_messages.Goals as goal

@@ -1,7 +1,5 @@
 -- `messages::residuals::residual_vector` meets its contract: what is left, from the largest so far, makes the whole.
 use mathlib.Core.Path.{refl, sym, ◌∙◌}
-use mathlib.Core.Bool.{true}
-use Prim.Native.Nat.{◌-◌}
 use native.Mathlib.Omega.{arith}
 use lib.Ieee.{of_bits, div, neg}
 use Rattle.messages.specs.Residual.{vector_turn, vector_all}

@@ -1,6 +1,6 @@
 -- `opening::initialize::fill_with` meets its contract: after i turns the first i entries are x.
 use mathlib.Core.Path.{◌≡◌, refl, ◌∙◌, ap}
-use Prim.Native.Nat.{ℕ, ◌+◌, ◌-◌}
+use Prim.Native.Nat.{ℕ, ◌+◌}
 use native.Mathlib.Omega.{arith}
 use lib.ListN.{length, length-set}
 use Rattle.list_laws.specs.Write.{write, write-none, write-next}

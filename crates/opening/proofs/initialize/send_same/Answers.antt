@@ -1,6 +1,6 @@
 -- `opening::initialize::send_same` meets its contract: the messages to the positions before direction k are sent.
 use mathlib.Core.Path.{◌≡◌, refl}
-use Prim.Native.Nat.{◌+◌, ◌-◌}
+use Prim.Native.Nat.{◌+◌}
 use native.Mathlib.Omega.{arith}
 use lib.ListN.{get_or}
 use Rattle.definition.specs.Vectors.{binary}

@@ -1,6 +1,6 @@
 -- `opening::open::clear_words` meets its contract: after i turns the first i words are 0.
 use mathlib.Core.Path.{◌≡◌, refl, ◌∙◌, ap}
-use Prim.Native.Nat.{ℕ, ◌+◌, ◌-◌}
+use Prim.Native.Nat.{ℕ, ◌+◌}
 use native.Mathlib.Omega.{arith}
 use lib.ListN.{length, length-set}
 use Rattle.list_laws.specs.Write.{write, write-none, write-next}

@@ -1,6 +1,5 @@
 -- `opening::passes::open_factors` meets its contract: the first n nodes have had their turn.
 use mathlib.Core.Path.{refl}
-use Prim.Native.Nat.{◌-◌}
 use native.Mathlib.Omega.{arith}
 use Rattle.definition.specs.FactorGraph.{is_factor}
 use Rattle.definition.specs.Sweeps.{opening_factor}

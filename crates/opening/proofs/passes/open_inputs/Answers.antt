@@ -1,6 +1,5 @@
 -- `opening::passes::open_inputs` meets its contract: the first n nodes have had their turn.
 use mathlib.Core.Path.{refl}
-use Prim.Native.Nat.{◌-◌}
 use native.Mathlib.Omega.{arith}
 use Rattle.definition.specs.FactorGraph.{is_input}
 use Rattle.definition.specs.Sweeps.{opening_input}

@@ -1,6 +1,5 @@
 -- `part::beliefs::write_beliefs` meets its contract.
 use mathlib.Core.Path.{refl, ◌∙◌}
-use Prim.Native.Nat.{◌-◌}
 use native.Mathlib.Omega.{arith}
 use Rattle.part.specs.BeliefsGrade.{kinds_count, before-all, grade-held}
 use Rattle.part.specs.BeliefsLoop.{no_beliefs, other_step, belief_fits, grade_step}

@@ -1,6 +1,5 @@
 -- `part::run::five_sweeps` meets its contract.
 use mathlib.Core.Path.{◌≡◌, refl, ◌∙◌}
-use Prim.Native.Nat.{◌-◌}
 use native.Mathlib.Omega.{arith}
 use Rattle.part.specs.RunSweeps.{swept, swept_none, swept-next}
 use Rattle.part.proofs.run.five_sweeps.Goals as goal

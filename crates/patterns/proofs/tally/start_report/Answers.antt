@@ -4,7 +4,7 @@ use lib.ListN.{length, set, length-set}
 use mathlib.Core.List.{List}
 use Rattle.definition.specs.Call.{overwrite}
 use mathlib.Core.Path.{◌≡◌, refl, ap, ◌∙◌}
-use Prim.Native.Nat.{ℕ, ◌-◌, ◌+◌, ◌*◌, ◌<◌}
+use Prim.Native.Nat.{ℕ, ◌+◌, ◌*◌, ◌<◌}
 use native.Mathlib.Omega.{arith}
 use Rattle.patterns.proofs.tally.start_report.Goals as goal
 

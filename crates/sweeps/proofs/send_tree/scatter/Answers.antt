@@ -1,6 +1,6 @@
 -- `sweeps::send_tree::scatter` meets its contract: after i turns the first i messages are copied.
 use mathlib.Core.Path.{◌≡◌, refl, ap, ◌∙◌}
-use Prim.Native.Nat.{◌+◌, ◌-◌}
+use Prim.Native.Nat.{◌+◌}
 use native.Mathlib.Omega.{arith}
 use lib.ListN.{length}
 use Rattle.messages.specs.LayoutPuts.{puts_none}

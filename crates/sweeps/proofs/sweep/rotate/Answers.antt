@@ -1,6 +1,6 @@
 -- `sweeps::sweep::rotate` meets its contract: after i turns the first i floats of each row have changed places.
 use mathlib.Core.Path.{◌≡◌, refl, subst}
-use Prim.Native.Nat.{ℕ, ◌-◌}
+use Prim.Native.Nat.{ℕ}
 use native.Mathlib.Omega.{arith}
 use lib.ListN.{length-set}
 use Rattle.sweeps.specs.SweepRotate.{Rotating, rotating_none, rotating_next, rotated-all}

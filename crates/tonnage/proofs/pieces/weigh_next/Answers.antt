@@ -43,4 +43,4 @@ returns c = λ bs h.
     let r = c.take_bale-took in
     let k = took_as (open_bale bs) _ _ r.result.input _ _ r.result.ended _ (not-false _ c.if-not-took.false) (r.ensures (open_bale bs) o) in
     let t = k.3.taken in
-    ended_to _ bs _ _ _ _ h _ _ _ _ _ k _ _ _ (c.weigh_bale-weighed.ensures _ _ h.tally t) (none_open _ _ _ (c.begin-fresh.ensures _ _ t.markers_now t.pairs-now))
+    ended_to _ bs _ _ _ _ h _ _ _ _ _ k _ _ _ (c.weigh_bale-weighed.ensures _ _ h.tally t) (none_open _ _ _ (c.begin-fresh.ensures _ _ t.markers_now t.pairs_now))

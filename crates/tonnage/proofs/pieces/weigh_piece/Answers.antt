@@ -1,11 +1,10 @@
 -- `pieces::weigh_piece` meets its contract. What a turn weighed is said of whatever bytes came before the piece.
-use Prim.Native.Nat.{ℕ, ◌+◌, ◌-◌, ◌≤◌, ◌<◌}
+use Prim.Native.Nat.{◌+◌, ◌≤◌, ◌<◌}
 use native.Mathlib.Omega.{arith}
-use mathlib.Core.List.{List, ◌++◌, append-nil}
-use mathlib.Core.Path.{◌≡◌, sym, ◌∙◌}
+use mathlib.Core.List.{◌++◌, append-nil}
+use mathlib.Core.Path.{sym, ◌∙◌}
 use lib.ListN.{length, take}
-use Rattle.tonnage.specs.Weighed.{Weighs, WeighedTo}
-use Rattle.tonnage.specs.Pieces.{behind, piece-next, piece-within, piece_less, piece-all, piece_few}
+use Rattle.tonnage.specs.Pieces.{piece-next, piece-within, piece_less, piece-all, piece_few}
 use Rattle.tonnage.proofs.pieces.weigh_piece.Goals as goal
 
 pub loop-at-init : goal.loop-at-init
@@ -56,7 +55,7 @@ shape_of-markers c =
 pub shape_of-pairs : goal.shape_of-pairs
 shape_of-pairs c =
     let h = c.requires.some_weighs in
-    (c.loop-at.invariant.0 h.bytes h.weighs).pairs-now ∙ sym h.weighs.pairs-now
+    (c.loop-at.invariant.0 h.bytes h.weighs).pairs_now ∙ sym h.weighs.pairs_now
 
 pub shape_of-work_floats : goal.shape_of-work_floats
 shape_of-work_floats c = c.loop-at.invariant.2 ∙ sym c.requires.work_floats_len.0

@@ -1,5 +1,4 @@
 -- `check::check_settings` meets its contract. The loop's invariant: no number before i is outside.
-use Prim.Native.Nat.{◌-◌}
 use native.Mathlib.Omega.{arith}
 use mathlib.Core.Path.{refl, sym, ap, ◌∙◌}
 use Rattle.definition.specs.Refusals.{lowest_place}

@@ -1,5 +1,4 @@
 -- `trial::try_each` meets its contract. The loop's invariant: the first i settings are reported, and the work is as it was.
-use Prim.Native.Nat.{◌-◌}
 use mathlib.Core.Path.{refl, sym, ap, ◌∙◌, subst}
 use native.Mathlib.Omega.{arith}
 use lib.ListN.{length, length-set}

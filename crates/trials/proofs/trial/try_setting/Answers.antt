@@ -1,5 +1,5 @@
 -- `trial::try_setting` meets its contract. The loop's invariant: the first k bales are tried, and the work is as it was.
-use Prim.Native.Nat.{ℕ, ◌-◌}
+use Prim.Native.Nat.{ℕ}
 use mathlib.Core.Path.{◌≡◌, refl, ap, ◌∙◌, subst}
 use native.Mathlib.Omega.{arith}
 use lib.ListN.{length}

@@ -1,6 +1,6 @@
 -- `zero_lookahead::begin::fill_leaves` meets its contract: the keys of the first d leaves are written.
 use mathlib.Core.Path.{◌≡◌, refl, ap, ◌∙◌}
-use Prim.Native.Nat.{ℕ, ◌-◌}
+use Prim.Native.Nat.{ℕ}
 use native.Mathlib.Omega.{arith}
 use lib.ListN.{length-set}
 use Rattle.list_laws.specs.Write.{write, write-none, write-next}

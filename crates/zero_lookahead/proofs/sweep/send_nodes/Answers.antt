@@ -1,9 +1,8 @@
 -- `zero_lookahead::sweep::send_nodes` meets its contract: the first n nodes have sent.
 use mathlib.Core.Path.{◌≡◌, refl, ◌∙◌}
-use Prim.Native.Nat.{ℕ, ◌+◌, ◌-◌, ◌*◌, ◌<◌}
+use Prim.Native.Nat.{ℕ, ◌+◌, ◌*◌, ◌<◌}
 use native.Mathlib.Omega.{arith}
 use lib.ListN.{length, get_or, length-set}
-use Rattle.definition.specs.Settings as definition
 use Rattle.zero_lookahead.specs.Part.{rows_end}
 use Rattle.zero_lookahead.specs.SweepSend.{record_fits}
 use Rattle.zero_lookahead.specs.SweepLoop.{swept_none, some-node, node-rows, swept_anew, front_anew, swept_kept}

@@ -1,5 +1,5 @@
 -- `calibrate::answer_parts` meets its contract: before each turn what the parts so far yield is written, and the words up to the last record are as they were.
-use Prim.Native.Nat.{ℕ, ◌+◌, ◌-◌, ◌*◌, ◌<◌}
+use Prim.Native.Nat.{ℕ, ◌+◌, ◌*◌, ◌<◌}
 use native.Mathlib.Omega.{arith}
 use mathlib.Core.Path.{ap}
 use lib.ListN.{length}
