@@ -1,6 +1,8 @@
 -- The entries of a replayed list, and what is counted over them.
-use Rattle.std.specs.Prelude.{ℕ, ◌+◌, ◌≤◌, ◌<◌, ◌≡◌, refl, Bool, true, false, not, List, [], ◌∷◌, length}
+use Rattle.std.specs.Prelude.{ℕ, ◌+◌, ◌*◌, ◌≤◌, ◌<◌, ◌≡◌, refl, Bool, true, false, not, nat_eq, Option, List, [], ◌∷◌, ◌++◌, length, take}
 use Rattle.std.proofs.Common.{arith, sym, ◌∙◌, subst}
+use Rattle.std.specs.Io.KnownBytes.{Consumes}
+use Rattle.streams.specs.Input.{consumes_nothing, consumes-then}
 use Rattle.definition.specs.Lists.{filter, cons_if, how_many}
 use Rattle.definition.specs.Listing.{listing}
 use Rattle.definition.specs.Shift.{shift_listing}
@@ -27,26 +29,80 @@ abbrev pub differs : ReplayEntry → Bool
 differs (whole shift file text) = not (same_bytes (listing_as shift file) text)
 differs broken = true
 
+-- four bytes before n others: three are their number, the lowest first, and the one above them tells a shift
+pub record HeadOf (n : ℕ) (shift : Bool) (bytes : List ℕ) : Type 0 where
+  pub low : ℕ
+  pub middle : ℕ
+  pub high : ℕ
+  pub kind : ℕ
+  pub is : bytes ≡ low ∷ middle ∷ high ∷ kind ∷ []
+  pub long : n ≡ low + 256 * middle + 65536 * high
+  pub told : shift ≡ not (nat_eq kind 0)
+
+-- bytes of a list: a head and the file, a head and the text
+pub record WholeIn (shift : Bool) (file text bytes : List ℕ) : Type 0 where
+  pub first : List ℕ
+  pub behind : List ℕ
+  pub kind : Bool
+  pub of-file : HeadOf (length file) shift first
+  pub of-text : HeadOf (length text) kind behind
+  pub is : bytes ≡ ((first ++ file) ++ behind) ++ text
+
+-- the bytes of an entry that breaks off may be any
+abbrev pub EntryIn : ReplayEntry → List ℕ → Type 0
+EntryIn (whole shift file text) bytes = WholeIn shift file text bytes
+EntryIn broken bytes = Unit {0}
+
+-- bytes are those of entries one after the other, of which the last comes first
+abbrev pub EntriesIn : List ReplayEntry → List ℕ → Type 0
+EntriesIn [] bytes = bytes ≡ []
+EntriesIn (e ∷ es) bytes = (front : List ℕ) × (back : List ℕ) × (bytes ≡ front ++ back) × EntriesIn es front × EntryIn e back
+
+-- a head was read, or what there was of one
+pub record HeadTaken (before after : Option (List ℕ)) (n : ℕ) (shift : Bool) : Type 0 where
+  pub bytes : List ℕ
+  pub consumed : Consumes before after bytes
+  pub is : n ≤ 4096 → HeadOf n shift bytes
+
+-- an entry was read to the front of two buffers, or what there was of one
+abbrev pub EntryTaken : Option (List ℕ) → Option (List ℕ) → List ℕ → List ℕ → Read → Type 0
+EntryTaken before after file text (Entry shift n k) = (bytes : List ℕ) × Consumes before after bytes × WholeIn shift (take n file) (take k text) bytes
+EntryTaken before after file text Broken = (bytes : List ℕ) × Consumes before after bytes
+EntryTaken before after file text End = (bytes : List ℕ) × Consumes before after bytes
+
 -- an entry more, which differs or does not
 abbrev pub one_more : Bool → Counts → Counts
 one_more true c = record { files = c.files + 1; differ = c.differ + 1 }
 one_more false c = record { files = c.files + 1; differ = c.differ }
 
--- The counts are those of a list of entries, the last one first.
-pub record Replayed (c : Counts) : Type 0 where
+-- The counts are those of a list of entries, the last one first. Of a reader whose bytes are known they are what it gave.
+pub record Replayed (before after : Option (List ℕ)) (c : Counts) : Type 0 where
   pub entries : List ReplayEntry
+  pub bytes : List ℕ
+  pub coded : EntriesIn entries bytes
+  pub consumed : Consumes before after bytes
   pub files : c.files ≡ length entries
   pub differ : c.differ ≡ how_many differs entries
   pub few : length entries ≤ 1000000
 
+-- Behind them bytes that are no entry may have gone too.
+pub record ReplayedAll (before after : Option (List ℕ)) (c : Counts) : Type 0 where
+  pub now : Option (List ℕ)
+  pub replayed : Replayed before now c
+  pub rest : List ℕ
+  pub consumed : Consumes now after rest
+
 -- an entry was counted, or the list is over
-pub record OneCounted (c d : Counts) : Type 0 where
+pub record OneCounted (before after : Option (List ℕ)) (c d : Counts) : Type 0 where
   pub entry : ReplayEntry
   pub is : d ≡ one_more (differs entry) c
+  pub bytes : List ℕ
+  pub coded : EntryIn entry bytes
+  pub consumed : Consumes before after bytes
 
-abbrev pub Stepped : Counts → Step → Type 0
-Stepped c (Counted d) = OneCounted c d
-Stepped c Over = Unit {0}
+abbrev pub Stepped : Option (List ℕ) → Option (List ℕ) → Counts → Step → Type 0
+Stepped before after c (Counted d) = OneCounted before after c d
+Stepped before after c Over = (bytes : List ℕ) × Consumes before after bytes
 
 -- there is room for what an entry says it has
 abbrev pub Fits : Read → Type 0
@@ -56,11 +112,12 @@ Fits End = Unit {0}
 
 -- ---- laws
 
-pub none_replayed : Replayed (record { files = 0; differ = 0 })
-none_replayed = record { entries = []; files = refl; differ = refl; few = omega arith }
+pub none_replayed : (known : Option (List ℕ)) → Replayed known known (record { files = 0; differ = 0 })
+none_replayed known =
+    record { entries = []; bytes = []; coded = refl; consumed = consumes_nothing known; files = refl; differ = refl; few = omega arith }
 
-pub differ_few : (c : Counts) → Replayed c → c.differ ≤ c.files
-differ_few c r = omega (arith, r.files, r.differ, filter-length differs r.entries)
+pub differ_few : (a b : Option (List ℕ)) (c : Counts) → Replayed a b c → c.differ ≤ c.files
+differ_few a b c r = omega (arith, r.files, r.differ, filter-length differs r.entries)
 
 pub more_files : (b : Bool) (c : Counts) → (one_more b c).files ≡ c.files + 1
 more_files true c = refl
@@ -70,12 +127,15 @@ more_differ : (b : Bool) (c : Counts) (e : ReplayEntry) (es : List ReplayEntry) 
 more_differ true c e es h = omega (arith, h)
 more_differ false c e es h = h
 
-pub one_replayed : (c d : Counts) → Replayed c → c.files < 1000000 → OneCounted c d → Replayed d
-one_replayed c d r h o =
+pub one_replayed : (x y z : Option (List ℕ)) (c d : Counts) → Replayed x y c → c.files < 1000000 → OneCounted y z c d → Replayed x z d
+one_replayed x y z c d r h o =
     let b = differs o.entry in
-    subst Replayed (sym o.is)
+    subst (Replayed x z) (sym o.is)
     (record {
       entries = o.entry ∷ r.entries;
+      bytes = r.bytes ++ o.bytes;
+      coded = (r.bytes, o.bytes, refl, r.coded, o.coded);
+      consumed = consumes-then x y z r.bytes o.bytes r.consumed o.consumed;
       files = more_files b c ∙ omega (arith, r.files);
       differ = more_differ b c o.entry r.entries r.differ;
       few = omega (arith, r.files, h);

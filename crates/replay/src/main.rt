@@ -3,13 +3,13 @@
 //
 // What is proved: a file and a text are counted as one file, and as one that differs exactly if the definition's listing of it, as a bale or as a shift,
 // is another text (`count_entry`); and the two numbers are the counts over some list of at most MOST_FILES entries: how many there are, and how many of
-// them differ (`replay_all`). What is only run: that this list is `stdin`. No contract can say which bytes a read gave, so `read_entry` says only that
-// they fit; that all are read, and each counted, is to be seen in `replay_next` and `replay_all`.
+// them differ (`replay_all`). Of a reader whose bytes are known these entries are what it gave, one after the other (`EntriesIn` of specs/Entries). Of the
+// system's input no contract says which bytes it gives. So what is only run is that the list is `stdin`, and that it is read to its end.
 #![tactic(auto)]
 
 ghost use Rattle.std.specs.Prelude.{◌≡◌, ◌+◌, ◌*◌, ◌≤◌, ◌<◌, length};
 ghost use Rattle.replay.specs.Same.{same_bytes};
-ghost use Rattle.replay.specs.Entries.{listing_as, whole, differs, one_more, Fits, Replayed, Stepped};
+ghost use Rattle.replay.specs.Entries.{listing_as, whole, differs, one_more, Fits, HeadTaken, EntryTaken, ReplayedAll, Stepped};
 
 mod listed;
 
@@ -58,7 +58,8 @@ fn number_of(a: u8, b: u8, c: u8) -> usize
 
 // Three bytes are the length, and the byte above them tells a shift.
 fn read_head<R: io::Read>(from: &mut R) -> Head
-    ensures { result.len ≤ 4097 }
+    ensures len { result.len ≤ 4097 }
+    ensures bytes { HeadTaken (R.remaining from.old) (R.remaining from.new) result.len result.shift }
 {
     let mut four = [0u8; 4];
     let got = read_full(from, &mut four);
@@ -90,7 +91,8 @@ fn is_listed(shift: bool, file: &[u8], text: &[u8]) -> bool
 // Reads the next file and the text behind it to the front of the two buffers.
 fn read_entry<R: io::Read>(from: &mut R, file: &mut [u8], text: &mut [u8]) -> Read
     requires { (length file.old ≡ 4096) × (length text.old ≡ 4096) }
-    ensures { Fits result }
+    ensures fits { Fits result }
+    ensures bytes { EntryTaken (R.remaining from.old) (R.remaining from.new) file.new text.new result }
 {
     let head = read_head(from);
     let n = head.len;
@@ -137,7 +139,7 @@ fn count_entry(counts: Counts, shift: bool, file: &[u8], text: &[u8]) -> Counts
 // Reads the next entry and counts it. One that breaks off differs.
 fn replay_next<R: io::Read>(from: &mut R, counts: Counts) -> Step
     requires { (counts.differ ≤ counts.files) × (counts.files < 1000000) }
-    ensures { Stepped counts result }
+    ensures { Stepped (R.remaining from.old) (R.remaining from.new) counts result }
 {
     let mut file = [0; 4096];
     let mut text = [0; 4096];
@@ -155,7 +157,7 @@ fn replay_next<R: io::Read>(from: &mut R, counts: Counts) -> Step
 }
 
 fn replay_all<R: io::Read>(from: &mut R) -> Counts
-    ensures { Replayed result }
+    ensures { ReplayedAll (R.remaining from.old) (R.remaining from.new) result }
 {
     let mut counts = Counts {
         files: 0,

@@ -186,17 +186,16 @@ fn main(rt: HostRuntime) {
     let mut pairs = [0; 140];
     let mut work_floats = [0.0; 16128];
     let mut work_numbers = [0; 16128];
-    let mut output = rt.stdout();
     let shift = read_shift(
         &mut rt.stdin(),
-        &mut output,
+        &mut rt.stdout(),
         &mut markers,
         &mut pairs,
         &mut work_floats,
         &mut work_numbers,
     );
     let written = write_last(
-        &mut output,
+        &mut rt.stdout(),
         shift,
         &markers,
         &pairs,

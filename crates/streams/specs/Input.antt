@@ -1,6 +1,6 @@
 -- What a program takes of its input, read by read.
 use Rattle.std.specs.Prelude.{ℕ, zero, suc, ◌+◌, ◌-◌, ◌≤◌, ◌<◌, ◌≡◌, min, refl, Bool, true, false, cond, Option, None, Some, IfSome, List, [], ◌∷◌, ◌++◌, ltb, length, take}
-use Rattle.std.proofs.Common.{arith, sym, ap, subst, ◌∙◌, true≢false, length-append, length-take, length-take-le, append_assoc, append-nil, ltb-false}
+use Rattle.std.proofs.Common.{arith, sym, ap, subst, ◌∙◌, true≢false, length-append, length-take, length-take-le, append_assoc, append-nil, ltb-false, lt-ltb, le-ltb}
 use Rattle.std.specs.Io.KnownBytes.{Consumes, IsAtEnd}
 use Rattle.streams.specs.declared.calls.Answer.{Answer}
 use Rattle.streams.specs.declared.calls.Answer.TheVariants.{Moved, Failed}
@@ -60,6 +60,34 @@ module _ (enough : List ℕ → Bool) where
     pub came : x ≡ came_by reads
     pub consumed : Consumes before after x.bytes
     pub ended : EndFound reads after
+
+-- ---- the phase, by what is asked in turn
+
+pub phase_failed : (got : Answer) (n b : ℕ) (e : Bool) → got ≡ Failed → Unreadable ≡ phase_after got n b e
+phase_failed got n b e h = rw h refl
+
+module _ (got : Answer) (b : ℕ) (e : Bool) (read : got ≡ Failed → ⊥) where
+  pub phase_end : Whole ≡ phase_after got 0 b e
+  phase_end = at got read
+    where
+      at : (a : Answer) → (a ≡ Failed → ⊥) → Whole ≡ phase_after a 0 b e
+      at Failed h = absurd (h refl)
+      at (Moved k) h = refl
+
+  module _ (n : ℕ) (some : 0 < n) where
+    came : cond (ltb 4294967296 b) TooLong (cond e Whole Reading) ≡ phase_after got n b e
+    came = at got n read some
+      where
+        at : (a : Answer) (m : ℕ) → (a ≡ Failed → ⊥) → 0 < m → cond (ltb 4294967296 b) TooLong (cond e Whole Reading) ≡ phase_after a m b e
+        at Failed m h p = absurd (h refl)
+        at (Moved k) zero h p = absurd (omega (arith, p))
+        at (Moved k) (suc m) h p = refl
+
+    pub phase_over : 4294967296 < b → TooLong ≡ phase_after got n b e
+    phase_over l = rw (lt-ltb _ _ l) at came
+
+    pub phase_few : b ≤ 4294967296 → (t : Bool) → e ≡ t → cond t Whole Reading ≡ phase_after got n b e
+    phase_few l t h = sym (ap (λ (u : Bool). cond u Whole Reading) h) ∙ rw (le-ltb _ _ l) at came
 
 -- ---- what a read gave, where n of the buffer's bytes were counted
 

@@ -188,7 +188,7 @@ module _ (s : definition.Settings) (t : MessageGraph) (out : ℕ) (evidence : Li
           (subst (Holds (leaves_in words₂) (encoded (push_priorities p others (set x.priorities d none)))) (sym (ap (λ (v : List ℕ). queue_row v out) words_are ∙ queue_is s t out evidence words₂ P q q-long))
           (added.waits x.priorities l before))
 
-      module _ (b : Highest) (at : b.direction ≡ d) (is-residual : r ≡ residual t x.store.msg_in x.store.msg_in_log d) (is_Is_store : y ≡ (scheduled_step s t b x).store) where
+      module _ (b : Highest) (at : b.direction ≡ d) (is-residual : r ≡ residual t x.store.msg_in x.store.msg_in_log d) (is-store : y ≡ (scheduled_step s t b x).store) where
         abbrev z : State
         z = scheduled_step s t b x
 
@@ -204,7 +204,7 @@ module _ (s : definition.Settings) (t : MessageGraph) (out : ℕ) (evidence : Li
         pub running_step : Runs s t out evidence (scheduled_step s t b x) words₃ w₃
         running_step =
             record {
-              stands = stands₃ z.store (sym is_Is_store);
+              stands = stands₃ z.store (sym is-store);
               pending_is = z_pending;
               clear_signs = (λ i k. subst (λ (l : List Float). T (clear (get_or l i zeroᶠ))) z_pending (z_signs i));
               queued =

@@ -7,7 +7,7 @@ use Rattle.streams.specs.Reads.{read_call}
 use Rattle.streams.specs.Input.{after_read, came-nothing, came_by}
 use Rattle.depot.specs.Program.{enough}
 use Rattle.depot.specs.Lines.{CountsLines}
-use Rattle.depot.specs.LinesHeld.{going_few, going_more, read_all}
+use Rattle.depot.specs.LinesHeld.{going_few, going_less, going_more, read_all}
 use Rattle.depot.proofs.read_lines.Goals as goal
 
 -- k bytes of the text from its place l on were lent, and are `new` then
@@ -24,6 +24,13 @@ module _ (l k : ℕ) (old new : List ℕ) (within : l ≤ length old) (long : le
 pub loop-at-init : goal.loop-at-init
 loop-at-init g c =
     (record { came = came_by enough []; by = came-nothing enough _; holds = c.begin-lines.ensures c.args.text.now }, c.requires)
+
+pub loop-at-smaller : goal.loop-at-smaller
+loop-at-smaller g c =
+    let l = c.loop-at in
+    let more = sym c.is_going.ensures ∙ c.loop-at-test.true in
+    let counts = c.take_read-lines.ensures l.invariant.0.came.bytes (sym l.invariant.0.holds.counts.counted) in
+    going_less _ _ l.lines l.text l.invariant.0 more c.read_some-got.result _ _ counts
 
 pub loop-at-preserved : goal.loop-at-preserved
 loop-at-preserved g c =

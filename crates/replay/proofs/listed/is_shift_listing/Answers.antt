@@ -1,5 +1,5 @@
 -- `replay::listed::is_shift_listing` meets its contract: in each turn what is left of the listing and of the text decides.
-use Rattle.std.specs.Prelude.{◌≡◌, Bool, true, false, not, refl}
+use Rattle.std.specs.Prelude.{refl}
 use Rattle.std.proofs.Common.{rules, arith, sym, ap, ◌∙◌, length-take-le}
 use borrow.Author.Rules.{part_to_end}
 use Rattle.bale_listing.specs.Lent.{rest-fits}
@@ -7,14 +7,6 @@ use Rattle.bale_listing.specs.Next.{next_fits}
 use Rattle.replay.specs.Same.{same_bytes, starts_with}
 use Rattle.replay.specs.Told.{none_told, part_room, used_within, used_some, told_not, told_more, all_told}
 use Rattle.replay.proofs.listed.is_shift_listing.Goals as goal
-
-did-not : (b : Bool) → not b ≡ true → b ≡ false
-did-not true e = cc
-did-not false e = refl
-
-did : (b : Bool) → not b ≡ false → b ≡ true
-did true e = refl
-did false e = cc
 
 pub loop-at-init : goal.loop-at-init
 loop-at-init c = (none_told (c.begin-input.ensures _ _ refl refl), refl, refl, refl)
