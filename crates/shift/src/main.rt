@@ -186,9 +186,10 @@ fn main(rt: HostRuntime) {
     let mut pairs = [0; 140];
     let mut work_floats = [0.0; 16128];
     let mut work_numbers = [0; 16128];
+    let mut listings = rt.stdout();
     let shift = read_shift(
         &mut rt.stdin(),
-        &mut rt.stdout(),
+        &mut listings,
         &mut markers,
         &mut pairs,
         &mut work_floats,
