@@ -10,7 +10,8 @@
  * the inputs, and `regularised` is 0 or 1. Everything else is checked, and every input is answered.
  *
  * Nothing is allocated, nothing is kept between calls, and no function of the library calls itself, directly or through others. No theorem bounds
- * the stack that it uses. Measured at its peak the call took 202 KiB, all read patterns 234 KiB and tried settings 244 KiB (docs/PERFORMANCE.md). */
+ * the stack that it uses. Measured at its peak, as the older Rattle built it, the call took 202 KiB, all read patterns 234 KiB and tried settings
+ * 244 KiB (docs/PERFORMANCE.md). */
 #ifndef PIKAPLATINUM_H
 #define PIKAPLATINUM_H
 
@@ -144,9 +145,9 @@ struct pikaplatinum_patterns pikaplatinum_count_patterns(
  * work and for a report under two numbers a setting, 3 is for a number of `settings` outside 1 to 1,023, place its index there, and 5 does not
  * occur. With no setting or no bale all checks are made and nothing is run.
  *
- * It takes as long as its calls, settings times bales of them, which may be 64,000, and can't be stopped meanwhile. A bale took 6.5 us for the
+ * It takes as long as its calls, settings times bales of them, which may be 64,000, and can't be stopped meanwhile. As the older Rattle built it, a bale took 6.5 us for the
  * graph of examples/film.txt, 53 us at 24 grades, 24 markers and 60 pairs, and 8.4 ms at the limits of grades, markers and pairs
- * (docs/PERFORMANCE.md), so that 64,000 take half a second, 3.4 s or 9 minutes. It uses 244 KiB of stack. */
+ * (docs/PERFORMANCE.md), so that 64,000 take half a second, 3.4 s or 9 minutes. It used 244 KiB of stack. */
 
 /* refusal 0: so many settings were reported. Else the refusal's number and place. */
 struct pikaplatinum_trials {

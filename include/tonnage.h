@@ -10,7 +10,7 @@
  * only with length 0), is aligned for its type, and the totals overlap neither input. Everything else is checked, and every input is answered.
  *
  * Nothing is allocated, nothing is kept between calls, and no function of the library calls itself, directly or through others. The work that the beliefs need
- * is on the stack. No theorem bounds it; measured at its peak the call took less than 320 KiB. */
+ * is on the stack. No theorem bounds it; measured at its peak, as the older Rattle built it, the call took less than 320 KiB. */
 #ifndef TONNAGE_H
 #define TONNAGE_H
 
