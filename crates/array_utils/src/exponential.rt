@@ -12,10 +12,8 @@ fn exp_series(r: f32) -> f32
     ensures { result ≡ exp_series 7 r oneᶠ }
 {
     let mut h: f32 = 1.0;
-    let mut j: u32 = 7;
-    while 0 < j {
+    for j in (1..8u32).rev() {
         h = 1.0 + (r * h) / (j as f32);
-        j -= 1;
     }
     h
 }

@@ -5,12 +5,12 @@ mod exponential;
 mod ln;
 mod message;
 mod power;
+mod row;
 mod table;
 mod vectors;
 
 pub use exponential::exp;
-pub use ln::ln_from_table;
 pub use message::{VariableMessage, sum_logs_batched};
 pub use power::{powers, powi};
-pub use table::log_table;
+pub use table::LogTable;
 pub use vectors::{avoid_underflow, divide, max, normalize};

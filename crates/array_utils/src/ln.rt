@@ -3,10 +3,11 @@ ghost use Rattle.std.specs.Prelude.{◌≡◌, ◌/◌, ◌%◌, ◌^◌, ◌<�
 ghost use Rattle.std.specs.Float.{fin};
 ghost use Rattle.std.specs.Float.Ieee.{to_unsigned};
 ghost use Rattle.float_laws.specs.Interval.{In};
-ghost use Rattle.definition.specs.Floats.{zeroᶠ, ln};
+ghost use Rattle.definition.specs.Floats.{zeroᶠ};
 ghost use Rattle.message_bounds.specs.Ln.{normal, ln_parts};
-ghost use Rattle.array_utils.specs.LogTable.{log_table};
 ghost use Rattle.array_utils.specs.LnLaws.{bits_of};
+
+use crate::table::LogTable;
 
 pub(crate) const LN_2: f32 = 0.6931471805599453;
 
@@ -69,24 +70,15 @@ impl FloatBits {
         digits >> (Self::WHOLE_EXPONENT - exponent)
     }
 
-    pub fn ln(self, table: &[f32; 1025]) -> f32
-        requires table_value { table.now ≡ log_table }
+    pub fn ln_from_table(self, table: &LogTable) -> f32
         requires exponent_bound { (self.exponent < 256) × (self.index < 1024) × (self.fraction < 8192) }
         ensures { result ≡ ln_parts self.exponent self.index self.fraction }
     {
         let exponent = (self.exponent as i32) - Self::EXPONENT_BIAS;
         let index = self.index as usize;
-        let low = table[index];
-        let high = table[index + 1];
+        let low = table.entries[index];
+        let high = table.entries[index + 1];
         let fraction = (self.fraction as f32) / (Self::FRACTION_STEPS as f32);
         (exponent as f32) * LN_2 + low + fraction * (high - low)
     }
-}
-
-// The table is LOG_TABLE's in f32, as log_table makes it: the caller makes it once and lends it to each call.
-pub fn ln_from_table(table: &[f32; 1025], x: f32) -> f32
-    requires { table.now ≡ log_table }
-    ensures { result ≡ ln x }
-{
-    FloatBits::new(x).ln(table)
 }

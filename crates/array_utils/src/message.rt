@@ -2,11 +2,10 @@
 ghost use Rattle.std.specs.Prelude.{◌≡◌, T};
 ghost use Rattle.std.specs.Float.Ieee.Scale.{finite};
 ghost use Rattle.definition.specs.Vectors.{binary, product_of, normalize, avoid_underflow_all, log_normalize, sum_logs_batched};
-ghost use Rattle.array_utils.specs.LogTable.{log_table};
 ghost use Rattle.array_utils.specs.Columns.{absents, presents};
 
 use crate::exponential::exp;
-use crate::ln::ln_from_table;
+use crate::table::LogTable;
 use crate::vectors::{avoid_underflow_entry, max};
 
 // How many rows are multiplied before one logarithm, and how many floats they take.
@@ -40,10 +39,9 @@ impl VariableMessage {
         }
     }
 
-    // exp(x - log(sum of exp)). The table is `log_table`'s, as in `ln_from_table`. Both logarithms are finite, which the bounds on messages
+    // exp(x - log(sum of exp)). Both logarithms are finite, which the bounds on messages
     // give the caller: an infinity less itself is NaN, outside the domain of `exp`.
-    pub fn log_normalize(self, table: &[f32; 1025]) -> VariableMessage
-        requires table_value { table.now ≡ log_table }
+    pub fn log_normalize(self, table: &LogTable) -> VariableMessage
         requires t { T (finite self.absent) × T (finite self.present) }
         ensures { binary result.absent result.present ≡ log_normalize self.absent self.present }
     {
@@ -52,7 +50,7 @@ impl VariableMessage {
         let b = self.present - largest;
         let ea = exp(a);
         let eb = exp(b);
-        let log_sum_exp = ln_from_table(table, ea + eb);
+        let log_sum_exp = table.ln(ea + eb);
         VariableMessage {
             absent: exp(a - log_sum_exp),
             present: exp(b - log_sum_exp),
@@ -67,37 +65,31 @@ fn column_products(rows: &[f32]) -> VariableMessage
     let n = rows.len() / 2;
     let mut absent: f32 = 1.0;
     let mut present: f32 = 1.0;
-    let mut i = 0;
-    while i < n {
+    for i in 0..n {
         absent *= rows[2 * i];
         present *= rows[2 * i + 1];
-        i += 1;
     }
     VariableMessage { absent, present }
 }
 
 // A row is a pair of floats. The sums of the logarithms of the two columns, in blocks of ten rows and a shorter rest.
-// The table is `log_table`'s, lent by the caller, as in `ln_from_table`.
-pub fn sum_logs_batched(table: &[f32; 1025], rows: &[f32]) -> VariableMessage
-    requires { table.now ≡ log_table }
+pub fn sum_logs_batched(table: &LogTable, rows: &[f32]) -> VariableMessage
     ensures { (result.absent ≡ sum_logs_batched (absents rows.now)) × (result.present ≡ sum_logs_batched (presents rows.now)) }
 {
     let blocks = rows.len() / BLOCK_FLOATS;
     let mut absent: f32 = 0.0;
     let mut present: f32 = 0.0;
-    let mut i = 0;
-    while i < blocks {
+    for i in 0..blocks {
         let start = i * BLOCK_FLOATS;
         let end = start + BLOCK_FLOATS;
         let p = column_products(&rows[start..end]);
-        absent += ln_from_table(table, p.absent);
-        present += ln_from_table(table, p.present);
-        i += 1;
+        absent += table.ln(p.absent);
+        present += table.ln(p.present);
     }
     let rest = blocks * BLOCK_FLOATS;
     let p = column_products(&rows[rest..]);
     VariableMessage {
-        absent: absent + ln_from_table(table, p.absent),
-        present: present + ln_from_table(table, p.present),
+        absent: absent + table.ln(p.absent),
+        present: present + table.ln(p.present),
     }
 }

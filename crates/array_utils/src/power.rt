@@ -30,13 +30,12 @@ pub fn powers(out: &mut [f32], base: f32)
     out[0] = 1.0;
     let mut square = base;
     let mut bit: usize = 1;
-    let mut i: usize = 1;
-    while i < out.len() {
+    for i in 1..out.len() {
         out[i] = out[i - bit] * square;
-        i += 1;
-        if i - bit == bit {
+        let next = i + 1;
+        if next - bit == bit {
             square *= square;
-            bit = i;
+            bit = next;
         }
     }
 }

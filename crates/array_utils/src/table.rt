@@ -1,6 +1,9 @@
-// LOG_TABLE, and the same in f32, which is made once and lent: a constant array is copied wherever it is read.
+// LOG_TABLE, and the same in f32: a constant array is copied wherever it is read.
 ghost use Rattle.std.specs.Prelude.{◌≡◌};
+ghost use Rattle.definition.specs.Floats.{ln};
 ghost use Rattle.array_utils.specs.LogTable.{Ruled, log_table};
+
+use crate::ln::FloatBits;
 
 // Entry i is the whole part of 2^24 times the natural logarithm of 1 + i / 1024, by document 01's series.
 const LOG_TABLE: [u32; 1025] = [
@@ -116,17 +119,30 @@ fn table_entries(numbers: &[u32; 1025]) -> [f32; 1025]
     ensures { result ≡ log_table }
 {
     let mut entries = [0.0f32; 1025];
-    let mut i: usize = 0;
-    while i < 1025 {
-        entries[i] = (numbers[i] as f32) / 16777216.0;
-        i += 1;
+    for (i, number) in numbers.iter().enumerate() {
+        entries[i] = (*number as f32) / 16777216.0;
     }
     entries
 }
 
-pub fn log_table() -> [f32; 1025]
-    ensures { result ≡ log_table }
-{
-    let numbers = LOG_TABLE;
-    table_entries(&numbers)
+// The table, made once and lent to each call that takes a logarithm.
+#[derive(Drop)]
+pub struct LogTable {
+    pub(crate) entries: [f32; 1025],
+    ghost is_log_table: { entries ≡ log_table },
+}
+
+impl LogTable {
+    pub fn new() -> LogTable {
+        let numbers = LOG_TABLE;
+        LogTable {
+            entries: table_entries(&numbers),
+        }
+    }
+    // `ln_from_table` of the Rust.
+    pub fn ln(&self, x: f32) -> f32
+        ensures { result ≡ ln x }
+    {
+        FloatBits::new(x).ln_from_table(self)
+    }
 }

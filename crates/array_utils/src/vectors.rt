@@ -10,10 +10,8 @@ fn sum(a: &[f32]) -> f32
     ensures { result ≡ sum_of a.now }
 {
     let mut sum: f32 = 0.0;
-    let mut i = 0;
-    while i < a.len() {
-        sum += a[i];
-        i += 1;
+    for x in a {
+        sum += *x;
     }
     sum
 }
@@ -22,10 +20,8 @@ fn sum(a: &[f32]) -> f32
 pub fn divide(a: &mut [f32], by: f32)
     ensures { a.new ≡ map (λ (x : Float). x ⊘ by) a.old }
 {
-    let mut i = 0;
-    while i < a.len() {
-        a[i] = a[i] / by;
-        i += 1;
+    for x in a.iter_mut() {
+        *x /= by;
     }
 }
 
@@ -45,10 +41,8 @@ pub(crate) fn avoid_underflow_entry(x: f32) -> f32
 pub fn avoid_underflow(a: &mut [f32])
     ensures { a.new ≡ avoid_underflow_all a.old }
 {
-    let mut i = 0;
-    while i < a.len() {
-        a[i] = avoid_underflow_entry(a[i]);
-        i += 1;
+    for x in a.iter_mut() {
+        *x = avoid_underflow_entry(*x);
     }
 }
 

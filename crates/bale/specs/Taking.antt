@@ -4,7 +4,6 @@ use Rattle.std.proofs.Common.{sym, ap, subst, ◌∙◌}
 use Rattle.bale_file.specs.Decoder.{Fed}
 use Rattle.bale_file.specs.Spoilt.{fed_bad}
 use Rattle.bale_answer.specs.Taken.{TakenIn}
-use Rattle.streams.specs.declared.calls.Answer.{Answer}
 use Rattle.streams.specs.Calls.{AnsweredWithin, counted, ReadMoves}
 use Rattle.streams.specs.Reads.{read_call}
 use Rattle.streams.specs.Input.{Came, after_read, phase_after, CameBy, is_reading, bytes_after, phase_is, to_read, few_while_reading, all_came, came-more, less_to-read}
@@ -41,7 +40,7 @@ ListingHanded before after t ms ps all = (x : Came) → HoldsInput x t ms ps →
 
 -- what a read gave, taken in
 module _
-    (bs buffer : List ℕ) (got : Answer) (n : ℕ) (is : n ≡ counted got (length buffer))
+    (bs buffer : List ℕ) (got : Option ℕ) (n : ℕ) (is : n ≡ counted got (length buffer))
     (t : Taking) (ms ps : List ℕ) (u : TakenIn (bs ++ take n buffer) t.input ms ps) where
   abbrev came : Came
   came = after_read decided (read_call got buffer) bs
@@ -71,7 +70,7 @@ module _ (before now : Option (List ℕ)) (t : Taking) (ms ps : List ℕ) (g : G
   going_few = rw g.holds.taken.counted (few_while_reading decided before now g.came g.by reading)
 
   -- a read more, which answered `got`
-  module _ (got : Answer) (buffer : List ℕ) (u : Taking) (ns qs : List ℕ) (h : HoldsInput (after_read decided (read_call got buffer) g.came.bytes) u ns qs) where
+  module _ (got : Option ℕ) (buffer : List ℕ) (u : Taking) (ns qs : List ℕ) (h : HoldsInput (after_read decided (read_call got buffer) g.came.bytes) u ns qs) where
     pub going_more : (after : Option (List ℕ)) → length buffer ≡ 65536 → AnsweredWithin 65536 got → ReadMoves now after got buffer → Going before after u ns qs
     going_more after l m r =
         record {

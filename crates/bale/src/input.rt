@@ -8,7 +8,7 @@ ghost use Rattle.bale.specs.Program.{decided, listing_of};
 ghost use Rattle.bale.specs.Taking.{HoldsInput, SomeHeld};
 
 use bale_answer::Input;
-use streams::{Answer, Phase, is_reading};
+use streams::{Phase, is_reading};
 
 #[derive(Clone, Copy)]
 pub struct Taking {
@@ -38,7 +38,7 @@ pub fn is_going(taking: Taking) -> bool
 // What a `read` gave that answered `got` and left this in its buffer.
 pub fn take_read(
     input: Input,
-    got: Answer,
+    got: Option<usize>,
     buffer: &[u8],
     markers: &mut [u32],
     pairs: &mut [u32],

@@ -1,5 +1,6 @@
 -- What an outcome says of a bale file, where four buffers of its own are lent for the answer: whether the file is accepted, and what they hold then.
-use Rattle.std.specs.Prelude.{ℕ, ◌≡◌, refl, List, Float, length, replicate}
+use Rattle.std.specs.Prelude.{ℕ, ◌≡◌, refl, Ok, Err, List, Float, length, replicate}
+use Rattle.std.specs.Prelude as std
 use Rattle.std.proofs.Math.Path.{sym, ap}
 use Rattle.std.proofs.Common.{◌∙◌}
 use Rattle.std.proofs.Math.Option.{none, some}
@@ -14,8 +15,8 @@ use Rattle.definition.specs.Call as definition
 use Rattle.definition.specs.Call.{Lent, Result, sizes_of, answered, refused_at, answered_by, result_of}
 use Rattle.definition.specs.FileAnswer.{buffers, file_verdict, file_result, accepted_answer, file_answer}
 use Rattle.zero_lookahead_belief_propagation.specs.Called.{lent_with}
-use Rattle.bale_answer.specs.declared.answer.FileOutcome.{FileOutcome}
-use Rattle.bale_answer.specs.declared.answer.FileOutcome.TheVariants.{Answered, Refused}
+use Rattle.checks.specs.declared.refusal.FileRefusal.{FileRefusal}
+use Rattle.zero_lookahead_belief_propagation.specs.declared.call.Counts.{Counts}
 use Rattle.bale_answer.specs.Outcomes.{file_outcome_of, file_result_with}
 
 -- the work, beside buffers of its own for the answer
@@ -47,7 +48,7 @@ said accepted s b l = refl
 said (refused n p) s b l = refl
 
 -- r and l are the outcome, and what the buffers hold afterwards
-module _ (bs : List ℕ) (wf : List Float) (wn : List ℕ) (r : FileOutcome) (l : Lent) (is : file_result_with r l ≡ file_result bs (lent_of wf wn)) where
+module _ (bs : List ℕ) (wf : List Float) (wn : List ℕ) (r : std.Result Counts FileRefusal) (l : Lent) (is : file_result_with r l ≡ file_result bs (lent_of wf wn)) where
   abbrev s : Settings
   s = settings_of_words (words bs)
 
@@ -58,13 +59,13 @@ module _ (bs : List ℕ) (wf : List Float) (wn : List ℕ) (r : FileOutcome) (l 
   unfolding file_result
   verdict-is = sym (said (file_verdict bs) s b (lent_of wf wn)) ∙ ap (λ (x : Result). verdict_in x.outcome) (sym is)
 
-  pub refuses : (n p : ℕ) → r ≡ Refused n p → file_answer bs ≡ none
+  pub refuses : (f : FileRefusal) → r ≡ Err f → file_answer bs ≡ none
   unfolding file_answer accepted_answer
-  refuses n p e = ap (λ (v : Verdict). accepted_answer v s b) (verdict-is ∙ ap (λ (x : FileOutcome). verdict_in (file_outcome_of x)) e)
+  refuses f e = ap (λ (v : Verdict). accepted_answer v s b) (verdict-is ∙ ap (λ (x : std.Result Counts FileRefusal). verdict_in (file_outcome_of x)) e)
 
-  module _ (n k : ℕ) (a : r ≡ Answered n k) where
+  module _ (c : Counts) (a : r ≡ Ok c) where
     pub accepts : file_verdict bs ≡ accepted
-    accepts = verdict-is ∙ ap (λ (x : FileOutcome). verdict_in (file_outcome_of x)) a
+    accepts = verdict-is ∙ ap (λ (x : std.Result Counts FileRefusal). verdict_in (file_outcome_of x)) a
 
     pub answers : file_answer bs ≡ some (answer s b)
     unfolding file_answer accepted_answer

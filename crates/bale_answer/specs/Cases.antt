@@ -37,14 +37,6 @@ module _ (bs : List ℕ) where
   unfolding file_verdict or_refused
   verdict_bad p e = ap (λ (o : Option ℕ). judged o zero_at over (verdict s buffers b)) e
 
-  pub verdict-zero : (p : ℕ) → bad_word bs ≡ none → zero_at ≡ some p → file_verdict bs ≡ refused 11 p
-  unfolding file_verdict or_refused
-  verdict-zero p whole z = λ i. judged (whole i) (z i) over (verdict s buffers b)
-
-  pub verdict-large : bad_word bs ≡ none → zero_at ≡ none → too_many 24 24 140 (bale_of_words (words bs)) ≡ true → file_verdict bs ≡ refused 1 0
-  unfolding file_verdict or_refused lowest_place lowest_place_from
-  verdict-large whole z e = λ i. judged (whole i) (z i) (e i) (verdict s buffers b)
-
   pub verdict_small :
       bad_word bs ≡ none → zero_at ≡ none → too_many 24 24 140 (bale_of_words (words bs)) ≡ false →
       file_verdict bs ≡ verdict (settings_of_words (words bs)) buffers (bale_of_words (words bs))

@@ -1,14 +1,14 @@
 -- A good file, as the decoder has it: whether its base rate is 0, whether it is too large, and the bale and the settings that it stands for.
-use Rattle.std.specs.Prelude.{ℕ, ◌*◌, ◌≤◌, ◌<◌, min, ◌≡◌, false, ◌||◌, List, map, Float, length, take}
-use Rattle.std.proofs.Common.{arith, sym, ◌∙◌, subst, ltb-true, lt-ltb, lit≤, length-take-le}
+use Rattle.std.specs.Prelude.{ℕ, ◌≤◌, ◌<◌, min, ◌≡◌, refl, Bool, true, false, ◌||◌, List, [], ◌∷◌, map, Float, length, take}
+use Rattle.std.proofs.Common.{arith, sym, ◌∙◌, subst, ltb-true, lt-ltb, lit≤}
 use Rattle.std.proofs.Math.Path.{ap}
 use Rattle.std.proofs.Math.Option.{none}
 use Rattle.std.proofs.Math.Dec.{ltb}
 use Rattle.std.proofs.lemmas.List.{length-map}
 use Rattle.definition.specs.Call.{Lent, sizes_of, result_of, call}
-use Rattle.definition.specs.Refusals.{markers_of, pairs_of, too_many, Verdict, verdict}
+use Rattle.definition.specs.Refusals.{markers_of, pairs_of, too_many, lowest_place, lowest_place_from, accepted, refused, Verdict, verdict}
 use Rattle.definition.specs.BaleFile.{words, bad_word, bits, words_of_kind, base_rate, evidence_of, pair_of, settings_of_words, bale_of_words, coded_settings}
-use Rattle.definition.specs.FileAnswer.{buffers, file_result}
+use Rattle.definition.specs.FileAnswer.{buffers, file_verdict, file_result}
 use Rattle.graph_laws.specs.Bools.{bool_iff, or_no, no_ltb}
 use Rattle.base_rate_laws.specs.Kinds.{zero_place, zero-base-at}
 use Rattle.bale_file.specs.declared.decoder.Decoder.{Decoder}
@@ -17,8 +17,9 @@ use Rattle.bale_file.specs.Reading.{most_words}
 use Rattle.bale_file.specs.Decoder.{fed_of}
 use Rattle.bale_file.specs.Decoded.{Decoded, decoded_good}
 use Rattle.bale_file.specs.DecodedBale.{decoded-settings, decoded-bale}
-use Rattle.bale_answer.specs.Taken.{Taken}
-use Rattle.bale_answer.specs.Checks.{over_counts}
+use Rattle.checks.specs.Verdicts.{passed, failed, skip}
+use Rattle.bale_answer.specs.Taken.{Taken, taken_bad}
+use Rattle.bale_answer.specs.Checks.{over_counts, file_check, base_check, size_check}
 use Rattle.bale_answer.specs.Cases.{zero_at, verdict_small}
 
 -- a good file that is not over these, with no base rate of 0
@@ -50,28 +51,46 @@ module _ (bs : List ℕ) (d : Decoder) (ms ps : List ℕ) (t : Taken bs d ms ps)
       let p = ap (ltb 140) (length-map (words_of_kind 5 (words bs)) pair_of) ∙ stopped 140 most_words (length (words_of_kind 5 (words bs))) (lit≤ tt) ∙ ap (ltb 140) (sym decoded.pairs) in
       λ i. ltb 24 (bits 11 0 (sym decoded.grades i)) || m i || p i
 
+-- ---- what the three checks say of the file, one after the other
+
+over_none : (b : Bool) → lowest_place (b ∷ []) ≡ none → b ≡ false
+unfolding lowest_place lowest_place_from
+over_none true e = cc
+over_none false e = refl
+
+module _ (bs : List ℕ) (d : Decoder) (ms ps : List ℕ) (t : Taken bs d ms ps) where
+  pub refused_file : (n p : ℕ) → refused n p ≡ file_check d → file_verdict bs ≡ refused n p
+  unfolding file_verdict
+  refused_file n p h = sym (failed 9 n p _ _ _ h (taken_bad bs d ms ps t))
+
+  module _ (file : accepted ≡ file_check d) where
+    whole : bad_word bs ≡ none
+    whole = passed 9 _ _ file (taken_bad bs d ms ps t)
+
+    pub refused_base : (n p : ℕ) → refused n p ≡ base_check d → file_verdict bs ≡ refused n p
+    unfolding file_verdict
+    refused_base n p h = skip 9 _ _ whole ∙ sym (failed 11 n p _ _ _ h (sym (zero_is bs d ms ps t whole)))
+
+    module _ (base : accepted ≡ base_check d) where
+      not-zero : zero_at bs ≡ none
+      not-zero = passed 11 _ _ base (sym (zero_is bs d ms ps t whole))
+
+      over_place : lowest_place (over_counts d ∷ []) ≡ lowest_place (too_many 24 24 140 (bale_of_words (words bs)) ∷ [])
+      over_place = ap (λ (b : Bool). lowest_place (b ∷ [])) (sym (over-is bs d ms ps t whole))
+
+      pub refused_size : (n p : ℕ) → refused n p ≡ size_check d → file_verdict bs ≡ refused n p
+      unfolding file_verdict
+      refused_size n p h = skip 9 _ _ whole ∙ skip 11 _ _ not-zero ∙ sym (failed 1 n p _ _ _ h over_place)
+
+      pub small_file : accepted ≡ size_check d → Small bs d ms ps
+      small_file size = record { taken = t; whole = whole; not-zero = not-zero; within = over_none _ (passed 1 _ _ size refl) }
+
 module _ (bs : List ℕ) (d : Decoder) (ms ps : List ℕ) (h : Small bs d ms ps) where
   pub counts-within : (bits 11 0 d.reading.grades ≤ 24) × (d.reading.markers ≤ 24) × (d.reading.pairs ≤ 140)
   counts-within =
       let x = or_no _ _ h.within in
       let y = or_no _ _ x.0 in
       (no_ltb _ _ y.0, no_ltb _ _ y.1, no_ltb _ _ x.1)
-
-  pub slices_within : (d.reading.markers ≤ length ms) × (d.reading.pairs ≤ length ps)
-  slices_within = (omega (arith, counts-within.1, h.taken.markers_now), omega (arith, counts-within.2, h.taken.pairs_now))
-
-  -- two floats to a marker, and two numbers to a pair
-  pub small_lengths :
-      (fs : List Float) (ns : List ℕ) → length fs ≡ 48 → length ns ≡ 280 →
-      (length (take (2 * d.reading.markers) fs) ≡ 2 * length (take d.reading.markers ms))
-      × (length (take (2 * d.reading.pairs) ns) ≡ 2 * length (take d.reading.pairs ps))
-  small_lengths fs ns f n =
-      let c = counts-within in
-      let m = length-take-le d.reading.markers ms slices_within.0 in
-      let p = length-take-le d.reading.pairs ps slices_within.1 in (
-        length-take-le (2 * d.reading.markers) fs (omega (arith, f, c.1)) ∙ ap (λ (k : ℕ). 2 * k) (sym m),
-        length-take-le (2 * d.reading.pairs) ns (omega (arith, n, c.2)) ∙ ap (λ (k : ℕ). 2 * k) (sym p),
-      )
 
   -- where the words of the markers and the pairs stand in two slices as floats and numbers, a call with these is the file's
   pub small_result :

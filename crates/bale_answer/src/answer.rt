@@ -8,16 +8,10 @@ ghost use Rattle.bale_answer.specs.Good.{Small, SomeSmall};
 ghost use Rattle.bale_answer.specs.Outcomes.{file_result_with};
 
 use crate::call::call_words;
-use crate::refusals::{Check, check_base, check_file, check_size, first_refusal};
+use crate::refusals::{check_base, check_file, check_size};
 use bale_file::Decoder;
-use zero_lookahead_belief_propagation::Outcome;
-
-// A refusal's number and place, or how many beliefs and endings there are.
-#[derive(Clone, Copy)]
-pub enum FileOutcome {
-    Refused(u32, u64),
-    Answered(u32, u32),
-}
+use checks::{FileRefusal, Refusal};
+use zero_lookahead_belief_propagation::Counts;
 
 // A good file of at most 24 grades, 24 markers and 140 pairs.
 fn answer_good(
@@ -30,7 +24,7 @@ fn answer_good(
     belief_floats: &mut [f32],
     ending_numbers: &mut [u32],
     ending_floats: &mut [f32],
-) -> Outcome
+) -> Result<Counts, Refusal>
     requires some_small { SomeSmall decoder markers.now pairs.now }
     requires ending_floats_value { sizes_of (lent_with work_floats.old work_numbers.old belief_numbers.old belief_floats.old ending_numbers.old ending_floats.old) ≡ buffers }
     ensures { (bs : List ℕ) → Small bs decoder markers.now pairs.now → result_with result (lent_with work_floats.new work_numbers.new belief_numbers.new belief_floats.new ending_numbers.new ending_floats.new) ≡ file_result bs (lent_with work_floats.old work_numbers.old belief_numbers.old belief_floats.old ending_numbers.old ending_floats.old) }
@@ -68,19 +62,15 @@ pub fn answer_bale(
     belief_floats: &mut [f32],
     ending_numbers: &mut [u32],
     ending_floats: &mut [f32],
-) -> FileOutcome
+) -> Result<Counts, FileRefusal>
     requires some_taken { SomeTaken decoder markers.now pairs.now }
     requires ending_floats_value { sizes_of (lent_with work_floats.old work_numbers.old belief_numbers.old belief_floats.old ending_numbers.old ending_floats.old) ≡ buffers }
     ensures { (bs : List ℕ) → Taken bs decoder markers.now pairs.now → file_result_with result (lent_with work_floats.new work_numbers.new belief_numbers.new belief_floats.new ending_numbers.new ending_floats.new) ≡ file_result bs (lent_with work_floats.old work_numbers.old belief_numbers.old belief_floats.old ending_numbers.old ending_floats.old) }
 {
-    let file = check_file(decoder);
-    let base = check_base(decoder);
-    let size = check_size(decoder);
-    let first = first_refusal(first_refusal(file, base), size);
-    if let Check::Refused(number, place) = first {
-        return FileOutcome::Refused(number, place);
-    }
-    let outcome = answer_good(
+    check_file(decoder)?;
+    check_base(decoder)?;
+    check_size(decoder)?;
+    let counts = answer_good(
         decoder,
         markers,
         pairs,
@@ -90,9 +80,6 @@ pub fn answer_bale(
         belief_floats,
         ending_numbers,
         ending_floats,
-    );
-    match outcome {
-        Outcome::Refused(number, place) => FileOutcome::Refused(number, place as u64),
-        Outcome::Answered(beliefs, endings) => FileOutcome::Answered(beliefs, endings),
-    }
+    )?;
+    Ok(counts)
 }

@@ -7,7 +7,8 @@ ghost use Rattle.bale_file.specs.Base.{rate_of};
 ghost use Rattle.zero_lookahead_belief_propagation.specs.Called.{result_with, lent_with};
 
 use bale_file::Decoder;
-use zero_lookahead_belief_propagation::{Outcome, calibrate_all_subgraphs};
+use checks::Refusal;
+use zero_lookahead_belief_propagation::{Counts, calibrate_all_subgraphs};
 
 const TOLERANCE: f32 = 0.006;
 
@@ -26,7 +27,7 @@ fn calibrate(
     belief_floats: &mut [f32],
     ending_numbers: &mut [u32],
     ending_floats: &mut [f32],
-) -> Outcome
+) -> Result<Counts, Refusal>
     ensures { result_with result (lent_with work_floats.new work_numbers.new belief_numbers.new belief_floats.new ending_numbers.new ending_floats.new) ≡ call (coded_settings rates prior) grades evidence.now pairs.now (lent_with work_floats.old work_numbers.old belief_numbers.old belief_floats.old ending_numbers.old ending_floats.old) }
 {
     calibrate_all_subgraphs(
@@ -61,7 +62,7 @@ pub(crate) fn call_words(
     belief_floats: &mut [f32],
     ending_numbers: &mut [u32],
     ending_floats: &mut [f32],
-) -> Outcome
+) -> Result<Counts, Refusal>
     requires { (length evidence.old ≡ 2 * length markers.now) × (length numbers.old ≡ 2 * length pairs.now) }
     ensures evidence_after { (markers_of evidence.new ≡ map (evidence_of (rate_of decoder.reading.base)) markers.now) × (pairs_of numbers.new ≡ map pair_of pairs.now) }
     ensures ending_floats_after { result_with result (lent_with work_floats.new work_numbers.new belief_numbers.new belief_floats.new ending_numbers.new ending_floats.new) ≡ call (coded_settings decoder.reading.rates decoder.reading.prior) (bits 11 0 decoder.reading.grades) evidence.new numbers.new (lent_with work_floats.old work_numbers.old belief_numbers.old belief_floats.old ending_numbers.old ending_floats.old) }

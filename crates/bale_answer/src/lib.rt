@@ -7,5 +7,5 @@ mod call;
 mod input;
 mod refusals;
 
-pub use answer::{FileOutcome, answer_bale};
+pub use answer::answer_bale;
 pub use input::{Input, TakenBale, begin, is_decided, take_bale, take_piece};

@@ -1,12 +1,11 @@
 -- The decoder over bytes: the model of what it is fed and of what it finds.
-use Rattle.std.specs.Prelude.{ℕ, zero, suc, ◌+◌, Bool, true, false, cond, not, ◌&&◌, List, [], ◌∷◌, eqb, leb}
+use Rattle.std.specs.Prelude.{ℕ, zero, suc, ◌+◌, Bool, true, false, cond, not, ◌&&◌, Result, Ok, Err, List, [], ◌∷◌, eqb, leb}
 use Rattle.std.proofs.Math.Option.{Option, none, some}
 use Rattle.definition.specs.BaleFile.{word_of, word_kind}
 use Rattle.bale_file.specs.declared.reading.Reading.{Reading}
 use Rattle.bale_file.specs.declared.decoder.Decoder.{Decoder}
 use Rattle.bale_file.specs.declared.decoder.FedBale.{FedBale}
-use Rattle.bale_file.specs.declared.decoder.File.{File}
-use Rattle.bale_file.specs.declared.decoder.File.TheVariants.{Bad, Good}
+use Rattle.bale_file.specs.declared.decoder.BadWord.{BadWord}
 use Rattle.bale_file.specs.Reading.{Held, held_of, read_word}
 
 -- the decoder, and what the two slices hold
@@ -77,9 +76,9 @@ fed_bale (x ∷ xs) f =
 
 -- ---- the end of the input
 
-abbrev pub file_of : File → Option ℕ
-file_of (Bad p) = some p
-file_of Good = none
+abbrev pub place_of : Result (Unit {0}) BadWord → Option ℕ
+place_of (Err e) = some e.place
+place_of (Ok u) = none
 
 -- the place of number 9 where the words run out: that of the bad word, or of the missing end, or of bytes that are left over
 unfoldable pub end_of : Bool → Reading → Option ℕ

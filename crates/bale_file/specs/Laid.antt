@@ -1,6 +1,6 @@
 -- Words laid over the front of a slice, two entries to each: the evidence and the pairs of the bale that they stand for.
-use Rattle.std.specs.Prelude.{ℕ, zero, suc, ◌+◌, ◌*◌, ◌/◌, ◌≤◌, ◌<◌, ◌≡◌, refl, List, [], ◌∷◌, map, Float, length, get_or, set, take}
-use Rattle.std.proofs.Common.{add-one, arith, sym, ap, ◌∙◌, take_all}
+use Rattle.std.specs.Prelude.{ℕ, zero, suc, ◌+◌, ◌*◌, ◌/◌, ◌<◌, ◌≡◌, refl, List, [], ◌∷◌, map, Float, length, get_or, set, take}
+use Rattle.std.proofs.Common.{add-one, arith, ap, ◌∙◌, take_all}
 use Rattle.std.proofs.Math.Option.{Option}
 use Rattle.definition.specs.BaleFile.{evidence_of, pair_of}
 use Rattle.definition.specs.Lists.{twos}
@@ -38,13 +38,6 @@ module _ {A : Type 0} (f g : ℕ → A) where
       b ≡ g (get_or ws i 0) →
       set (set ys (2 * i) a) (2 * i + 1) b ≡ overwrite (in_twos (take (i + 1) ws)) xs
   laid_next i ws xs ys a b l e p q r = rw (p, q, r, add-one i) (laid-suc i ws xs l e)
-
-  -- all that there is room for, or all words
-  pub laid_room : (n : ℕ) (ws : List ℕ) (xs : List A) → n ≡ length xs / 2 → overwrite (in_twos (take n ws)) xs ≡ laid ws xs
-  laid_room n ws xs e = ap (λ (k : ℕ). overwrite (in_twos (take k ws)) xs) e
-
-  pub laid-words : (n : ℕ) (ws : List ℕ) (xs : List A) → length ws ≤ n → n ≤ length xs / 2 → overwrite (in_twos (take n ws)) xs ≡ laid ws xs
-  laid-words n ws xs h k = ap (λ (vs : List ℕ). overwrite (in_twos vs) xs) (take_all n ws h ∙ sym (take_all (length xs / 2) ws (omega arith)))
 
 abbrev pub evidence_laid : Option ℕ → List ℕ → List Float → List Float
 evidence_laid b = laid (λ w. (evidence_of b w).absent) (λ w. (evidence_of b w).present)

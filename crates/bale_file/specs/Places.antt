@@ -1,18 +1,17 @@
 -- The place of the first bad word, as the reading has it once the words have run out.
-use Prim.Native.Nat.{ℕ, suc, ◌+◌, ◌≤◌}
-use Rattle.std.proofs.Common.{add-one, arith, sym, ap, ◌∙◌, lt-ltb}
+use Prim.Native.Nat.{ℕ, suc, ◌+◌, ◌≤◌, min}
+use Rattle.std.proofs.Common.{arith, sym, ap, ◌∙◌}
 use Rattle.std.specs.Prelude.{◌≡◌, Bool, true, false, length}
 use Rattle.std.proofs.Math.Path.{refl}
 use Rattle.std.proofs.Math.Option.{some}
 use mathlib.Core.List.{List, [], ◌∷◌}
 use Rattle.definition.specs.BaleFile.{word_kind, bad_word_from}
-use Rattle.bale_file.specs.Reading.{Held, last_place, one_more, good_after, spoilt, kept_word, read_word, read_words}
+use Rattle.bale_file.specs.Reading.{Held, last_place, good_after, spoilt, kept_word, read_word, read_words}
 use Rattle.bale_file.specs.ReadingSteps.{read-spoilt, read_good, stays}
 use Rattle.bale_file.specs.Decoder.{end_of}
 
-one_more_lem : (n : ℕ) → n + 1 ≤ last_place → one_more last_place n ≡ suc n
-unfolding one_more
-one_more_lem n l = rw (lt-ltb n last_place (omega arith)) (add-one n)
+next_place : (n : ℕ) → n + 1 ≤ last_place → min (n + 1) last_place ≡ suc n
+next_place n l = omega arith
 
 module _ (left : Bool) where
   pub from_good : (i j w : ℕ) (ws : List ℕ) → good_after j w ≡ true → bad_word_from left i j (w ∷ ws) ≡ bad_word_from left (suc i) (word_kind w) ws
@@ -42,12 +41,12 @@ module _ (left : Bool) where
       go :
           (b : Bool) →
           good_after h.reading.kind w ≡ b →
-          (one_more last_place p + length ws ≤ last_place → end_of left (read_words ws (kept_word w (word_kind w) h)).reading ≡ bad_word_from left (one_more last_place p) (word_kind w) ws) →
+          (min (p + 1) last_place + length ws ≤ last_place → end_of left (read_words ws (kept_word w (word_kind w) h)).reading ≡ bad_word_from left (min (p + 1) last_place) (word_kind w) ws) →
           end_of left (read_words ws (read_word w h)).reading ≡ bad_word_from left p h.reading.kind (w ∷ ws)
       go true e r =
           ap (λ (k : Held). end_of left (read_words ws k).reading) (sym (read_good w h s (word_kind w) refl e))
-          ∙ r (omega (arith, one_more_lem p (omega arith)))
-          ∙ ap (λ (n : ℕ). bad_word_from left n (word_kind w) ws) (one_more_lem p (omega arith))
+          ∙ r (omega (arith, next_place p (omega arith)))
+          ∙ ap (λ (n : ℕ). bad_word_from left n (word_kind w) ws) (next_place p (omega arith))
           ∙ sym (from_good p h.reading.kind w ws e)
       go false e r =
           ap (λ (k : Held). end_of left (read_words ws k).reading) (sym (read-spoilt w h s e))

@@ -1,5 +1,5 @@
 -- What the words of a bale file leave behind, taken one by one: the model of the reading and its two slices.
-use Rattle.std.specs.Prelude.{ℕ, ◌+◌, Bool, true, cond, ◌&&◌, List, [], ◌∷◌, eqb, ltb, set}
+use Rattle.std.specs.Prelude.{ℕ, ◌+◌, Bool, true, cond, ◌&&◌, List, [], ◌∷◌, min, eqb, ltb, set}
 use Rattle.definition.specs.BaleFile.{word_kind, clean_word, may_follow}
 use Rattle.bale_file.specs.declared.reading.Reading.{Reading}
 
@@ -47,7 +47,7 @@ kept_word w k h =
     record {
       reading =
           record {
-            place = one_more last_place r.place;
+            place = min (r.place + 1) last_place;
             kind = k;
             bad = r.bad;
             rates = cond (eqb k 1) w r.rates;

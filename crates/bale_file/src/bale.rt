@@ -11,17 +11,10 @@ pub fn fill_evidence(words: &[u32], base: u32, evidence: &mut [f32])
     ensures { evidence.new ≡ evidence_laid (rate_of base) words.now evidence.old }
 {
     let room = evidence.len() / 2;
-    let n = if words.len() < room {
-        words.len()
-    } else {
-        room
-    };
-    let mut i = 0;
-    while i < n {
+    for i in 0..words.len().min(room) {
         let word = words[i];
         evidence[2 * i] = absent(word, base);
         evidence[2 * i + 1] = present(word, base);
-        i += 1;
     }
 }
 
@@ -29,16 +22,9 @@ pub fn fill_pairs(words: &[u32], pairs: &mut [u32])
     ensures { pairs.new ≡ pairs_laid words.now pairs.old }
 {
     let room = pairs.len() / 2;
-    let n = if words.len() < room {
-        words.len()
-    } else {
-        room
-    };
-    let mut i = 0;
-    while i < n {
+    for i in 0..words.len().min(room) {
         let word = words[i];
         pairs[2 * i] = upper_ten(word);
         pairs[2 * i + 1] = lower_ten(word);
-        i += 1;
     }
 }

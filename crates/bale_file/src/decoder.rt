@@ -2,7 +2,7 @@
 ghost use Rattle.std.specs.Prelude.{◌≡◌, List, ℕ};
 ghost use Rattle.claims.specs.ShiftCut.{NoEnd};
 ghost use Rattle.bale_file.specs.FirstBale.{FirstBale};
-ghost use Rattle.bale_file.specs.Decoder.{started, fed_of, fed_byte, fed, ends_bale, fed_bale_of, fed_bale, file_of, finished};
+ghost use Rattle.bale_file.specs.Decoder.{started, fed_of, fed_byte, fed, ends_bale, fed_bale_of, fed_bale, place_of, finished};
 
 use crate::reading::{Reading, read_word};
 use crate::word::{kind_of, word_of};
@@ -25,11 +25,10 @@ pub struct FedBale {
     pub ended: bool,
 }
 
-// The place of number 9, if the file has one.
-#[derive(Clone, Copy)]
-pub enum File {
-    Bad(u64),
-    Good,
+// The file is bad, number 9, and this is the place.
+#[derive(Clone, Copy, Debug, PartialEq, Eq)]
+pub struct BadWord {
+    pub place: u64,
 }
 
 pub fn start() -> Decoder
@@ -87,10 +86,8 @@ pub fn feed(decoder: Decoder, bytes: &[u8], markers: &mut [u32], pairs: &mut [u3
     ensures { fed_of result markers.new pairs.new ≡ fed bytes.now (fed_of decoder markers.old pairs.old) }
 {
     let mut d = decoder;
-    let mut i = 0;
-    while i < bytes.len() {
-        d = feed_byte(d, bytes[i], markers, pairs);
-        i += 1;
+    for &byte in bytes {
+        d = feed_byte(d, byte, markers, pairs);
     }
     d
 }
@@ -113,40 +110,33 @@ pub fn feed_bale(decoder: Decoder, bytes: &[u8], markers: &mut [u32], pairs: &mu
     ensures by_index { (bs ms ps : List ℕ) → NoEnd bs → fed_of decoder markers.old pairs.old ≡ fed bs (fed_of started ms ps) → FirstBale bs bytes.now result }
 {
     let mut d = decoder;
-    let mut i = 0;
-    while i < bytes.len() {
-        let byte = bytes[i];
+    for (i, &byte) in bytes.iter().enumerate() {
         let ends = ends_bale(d, byte);
         d = feed_byte(d, byte, markers, pairs);
-        i += 1;
         if ends {
             return FedBale {
                 decoder: d,
-                used: i,
+                used: i + 1,
                 ended: true,
             };
         }
     }
     FedBale {
         decoder: d,
-        used: i,
+        used: bytes.len(),
         ended: false,
     }
 }
 
 // At the end of the input: a missing end or bytes that make no whole word are bad too.
-pub fn finish(decoder: Decoder) -> File
-    ensures { file_of result ≡ finished decoder }
+pub fn finish(decoder: Decoder) -> Result<(), BadWord>
+    ensures { place_of result ≡ finished decoder }
 {
     let reading = decoder.reading;
-    if reading.bad {
-        return File::Bad(reading.place);
+    if reading.bad || reading.kind != 6 || decoder.filled != 0 {
+        return Err(BadWord {
+            place: reading.place,
+        });
     }
-    if reading.kind != 6 {
-        return File::Bad(reading.place);
-    }
-    if decoder.filled != 0 {
-        return File::Bad(reading.place);
-    }
-    File::Good
+    Ok(())
 }

@@ -8,6 +8,6 @@ mod reading;
 mod word;
 
 pub use bale::{fill_evidence, fill_pairs};
-pub use decoder::{Decoder, FedBale, File, feed, feed_bale, finish, start};
+pub use decoder::{BadWord, Decoder, FedBale, feed, feed_bale, finish, start};
 pub use fields::{alpha, beta, grade_count, is_regularised, is_zero_base, over_1024};
 pub use reading::Reading;

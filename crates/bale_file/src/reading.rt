@@ -1,13 +1,11 @@
 // What the words of a bale file say, taken one by one. It has no end of its own: a bad word is found however many words came before it.
 ghost use Rattle.std.specs.Prelude.{◌≡◌};
-ghost use Rattle.bale_file.specs.Reading.{held_of, most_words, last_place, one_more, put_at, kept_word, read_word};
+ghost use Rattle.bale_file.specs.Reading.{held_of, most_words, one_more, put_at, kept_word, read_word};
 
 use crate::word::{is_clean, kind_of, may_follow};
 
-// How far words are counted, and how far their places: a file that has more does not exist.
+// How far words are counted: a file that has more does not exist.
 const MOST_WORDS: u32 = 4294967295;
-
-const LAST_PLACE: u64 = 18446744073709551615;
 
 #[derive(Clone, Copy)]
 pub struct Reading {
@@ -25,15 +23,6 @@ pub struct Reading {
     // How many words of kinds 4 and 5 there are.
     pub markers: u32,
     pub pairs: u32,
-}
-
-fn next_place(place: u64) -> u64
-    ensures { result ≡ one_more last_place place }
-{
-    if place < LAST_PLACE {
-        return place + 1;
-    }
-    place
 }
 
 // Puts a word at the place `count`, if it is there, and counts it.
@@ -61,7 +50,7 @@ fn keep_word(
     ensures { held_of result markers.new pairs.new ≡ kept_word word kind (held_of reading markers.old pairs.old) }
 {
     let mut next = reading;
-    next.place = next_place(reading.place);
+    next.place = reading.place.saturating_add(1);
     next.kind = kind;
     if kind == 1 {
         next.rates = word;

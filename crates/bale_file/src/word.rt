@@ -6,7 +6,7 @@ ghost use Rattle.definition.specs.BaleFile.{word_of, word_kind, field_width, cle
 pub fn word_of(a: u8, b: u8, c: u8, d: u8) -> u32
     ensures { result ≡ word_of a b c d }
 {
-    a as u32 + 256 * (b as u32) + 65536 * (c as u32) + 16777216 * (d as u32)
+    u32::from_le_bytes([a, b, c, d])
 }
 
 pub fn kind_of(word: u32) -> u32

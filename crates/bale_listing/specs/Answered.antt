@@ -1,5 +1,6 @@
 -- What a bale file's answer leaves to be listed: a refusal's number and place, or the parts at the front of their buffers.
-use Rattle.std.specs.Prelude.{ℕ, ◌+◌, ◌≤◌, ◌≡◌, Float}
+use Rattle.std.specs.Prelude.{ℕ, ◌+◌, ◌≤◌, ◌≡◌, Ok, Err, Float}
+use Rattle.std.specs.Prelude as std
 use Rattle.std.proofs.Common.{arith, ◌∙◌}
 use Rattle.std.proofs.Math.Nat.{zero-add}
 use Rattle.std.proofs.Math.Path.{sym, ap}
@@ -20,9 +21,10 @@ use Rattle.listing.specs.Parts.{Parts, PartsFit, SomeParts}
 use Rattle.listing.specs.Answered.{answer_stands}
 use Rattle.listing.specs.Sizes.{listing-short}
 use Rattle.listing.specs.Writing.{Written, written_next, written-long}
+use Rattle.checks.specs.declared.refusal.FileRefusal.{FileRefusal}
+use Rattle.checks.specs.Verdicts.{number_of}
+use Rattle.zero_lookahead_belief_propagation.specs.declared.call.Counts as call
 use Rattle.bale_file.specs.declared.decoder.Decoder.{Decoder}
-use Rattle.bale_answer.specs.declared.answer.FileOutcome.{FileOutcome}
-use Rattle.bale_answer.specs.declared.answer.FileOutcome.TheVariants.{Answered, Refused}
 use Rattle.bale_answer.specs.Taken.{Taken}
 use Rattle.bale_answer.specs.Outcomes.{file_outcome_of, file_result_with}
 use Rattle.bale_answer.specs.AcceptedFile.{AcceptedFile, accepted_file}
@@ -35,7 +37,7 @@ endings_in (answered n k) = k
 endings_in (refused_at n p) = 0
 
 -- r and l are the outcome, and what the buffers hold afterwards
-module _ (bs : List ℕ) (wf : List Float) (wn : List ℕ) (r : FileOutcome) (l : Lent) (is : file_result_with r l ≡ file_result bs (lent_of wf wn)) where
+module _ (bs : List ℕ) (wf : List Float) (wn : List ℕ) (r : std.Result call.Counts FileRefusal) (l : Lent) (is : file_result_with r l ≡ file_result bs (lent_of wf wn)) where
   abbrev s : Settings
   s = settings_of_words (words bs)
 
@@ -58,23 +60,23 @@ module _ (bs : List ℕ) (wf : List Float) (wn : List ℕ) (r : FileOutcome) (l 
       }
 
   pub refused_listed :
-      (n p : ℕ) → r ≡ Refused n p → (out out' : List ℕ) (end : ℕ) → Written out 0 (refusal n p) out' end →
+      (f : FileRefusal) → r ≡ Err f → (out out' : List ℕ) (end : ℕ) → Written out 0 (refusal (number_of f.check) f.place) out' end →
       ListedFrom bs end wf wn out l.work_floats l.work_numbers out'
   unfolding verdict_lines
-  refused_listed n p e out out' end w = listed (refused n p) (verdict-is bs wf wn r l is ∙ ap (λ (x : FileOutcome). verdict_in (file_outcome_of x)) e) out out' end w
+  refused_listed f e out out' end w = listed (refused (number_of f.check) f.place) (verdict-is bs wf wn r l is ∙ ap (λ (x : std.Result call.Counts FileRefusal). verdict_in (file_outcome_of x)) e) out out' end w
 
   -- an answer, and the counts that the code has
   module _
-      (d : Decoder) (ms ps : List ℕ) (t : Taken bs d ms ps) (n k : ℕ) (a : r ≡ Answered n k)
+      (d : Decoder) (ms ps : List ℕ) (t : Taken bs d ms ps) (c : call.Counts) (a : r ≡ Ok c)
       (g : ℕ) (grades_are : g ≡ bits 11 0 d.reading.grades) where
     file : AcceptedFile bs d
-    file = accepted_file bs d ms ps t (accepts bs wf wn r l is n k a)
+    file = accepted_file bs d ms ps t (accepts bs wf wn r l is c a)
 
     counts_are : Counts b g d.reading.markers d.reading.pairs
     counts_are = record { grades_are = sym (grades_are ∙ file.grades_are); markers_are = sym file.markers_are; pairs_are = sym file.pairs_are }
 
     left : file_result_with r l ≡ answered_by (work_needed b) (answer s b) (lent_of wf wn)
-    left = left_is bs wf wn r l is n k a
+    left = left_is bs wf wn r l is c a
 
     stands : Parts (answer s b) l.belief_numbers l.belief_floats l.ending_numbers l.ending_floats
     stands =
@@ -86,7 +88,7 @@ module _ (bs : List ℕ) (wf : List Float) (wn : List ℕ) (r : FileOutcome) (l 
         )
         (answer_stands s buffers b file.accepts (settings_fit (words bs)) (evidence-fits (words bs)) (work_needed b) (lent_of wf wn))
 
-    many : length (answer s b) ≡ k
+    many : length (answer s b) ≡ c.endings
     unfolding answered_by
     many = sym (ap endings_in (ap file_outcome_of (sym a) ∙ ap (λ (x : Result). x.outcome) left))
 
@@ -107,18 +109,18 @@ module _ (bs : List ℕ) (wf : List Float) (wn : List ℕ) (r : FileOutcome) (l 
         first : Written out 0 (bale_line b) out₁ at
         first = wrote b counts_are
 
-        parts_fit : PartsFit (answer s b) l.belief_numbers l.belief_floats l.ending_numbers l.ending_floats k at (length out₁)
+        parts_fit : PartsFit (answer s b) l.belief_numbers l.belief_floats l.ending_numbers l.ending_floats c.endings at (length out₁)
         parts_fit = record { stand = stands; many = many; fits = omega (arith, short, first.place, written-long first (omega (arith, short))) }
 
-        pub some-parts : SomeParts l.belief_numbers l.belief_floats l.ending_numbers l.ending_floats k at (length out₁)
+        pub some-parts : SomeParts l.belief_numbers l.belief_floats l.ending_numbers l.ending_floats c.endings at (length out₁)
         some-parts = record { parts = answer s b; good = parts_fit }
 
         pub both-listed :
             (out₂ : List ℕ) (end : ℕ) →
-            ((qs : List PartAnswer) → PartsFit qs l.belief_numbers l.belief_floats l.ending_numbers l.ending_floats k at (length out₁) →
+            ((qs : List PartAnswer) → PartsFit qs l.belief_numbers l.belief_floats l.ending_numbers l.ending_floats c.endings at (length out₁) →
             Written out₁ at (part_lines qs) out₂ end) →
             ListedFrom bs end wf wn out l.work_floats l.work_numbers out₂
         unfolding verdict_lines
         both-listed out₂ end w =
-            listed accepted (accepts bs wf wn r l is n k a) out out₂ end
+            listed accepted (accepts bs wf wn r l is c a) out out₂ end
             (written_next first (w (answer s b) parts_fit) (omega (arith, short, length-append (bale_line b) (part_lines (answer s b)))))

@@ -3,7 +3,7 @@ ghost use Rattle.std.specs.Prelude.{◌≡◌, List, ℕ, ◌≤◌, length};
 ghost use Rattle.bale_answer.specs.Taken.{Taken, SomeTaken};
 ghost use Rattle.bale_listing.specs.Lent.{ListedFrom};
 
-use bale_answer::{FileOutcome, answer_bale};
+use bale_answer::answer_bale;
 use bale_file::Decoder;
 use listing::{put_bale, put_parts, put_refusal};
 
@@ -24,7 +24,7 @@ pub fn list_bale(
     let mut floats = [0.0; 48];
     let mut endings = [0; 96];
     let mut residuals = [0.0; 24];
-    let outcome = answer_bale(
+    let answered = answer_bale(
         decoder,
         markers,
         pairs,
@@ -35,9 +35,9 @@ pub fn list_bale(
         &mut endings,
         &mut residuals,
     );
-    match outcome {
-        FileOutcome::Refused(number, place) => put_refusal(out, 0, number, place),
-        FileOutcome::Answered(_, count) => {
+    match answered {
+        Err(refusal) => put_refusal(out, 0, refusal.check.number(), refusal.place),
+        Ok(counts) => {
             let reading = decoder.reading;
             let grades = bale_file::grade_count(reading.grades);
             let k = put_bale(
@@ -54,7 +54,7 @@ pub fn list_bale(
                 &floats,
                 &endings,
                 &residuals,
-                count as usize,
+                counts.endings as usize,
             )
         }
     }

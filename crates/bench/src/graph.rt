@@ -5,7 +5,7 @@ ghost use Rattle.definition.specs.Settings.{settings_of};
 ghost use Rattle.checks.specs.Verdicts.{verdict_of};
 ghost use Rattle.bench.specs.Graphs.{CutAfter, Judged, lent_of};
 
-use checks::{Buffers, Verdict};
+use checks::{Buffers, Refusal};
 use components::graph::build_components;
 
 #[repr(C)]
@@ -18,14 +18,20 @@ pub struct Reply {
 }
 
 // A refused call leaves the words as they are.
-fn cut_judged(v: Verdict, words: &mut [u32], grades: u32, evidence: &[f32], pairs: &[u32]) -> Reply
-    requires { Judged (verdict_of v) grades evidence.now pairs.now (length words.old) }
-    ensures { CutAfter (verdict_of v) (bale_of grades evidence.now pairs.now) words.old words.new result.number result.place result.count result.end }
+fn cut_judged(
+    judged: Result<(), Refusal>,
+    words: &mut [u32],
+    grades: u32,
+    evidence: &[f32],
+    pairs: &[u32],
+) -> Reply
+    requires { Judged (verdict_of judged) grades evidence.now pairs.now (length words.old) }
+    ensures { CutAfter (verdict_of judged) (bale_of grades evidence.now pairs.now) words.old words.new result.number result.place result.count result.end }
 {
-    if let Verdict::Refused(n, p) = v {
+    if let Err(refusal) = judged {
         return Reply {
-            number: n,
-            place: p,
+            number: refusal.check.number(),
+            place: refusal.place,
             count: 0,
             end: 0,
         };
@@ -65,7 +71,7 @@ pub extern "C" fn cut_graph(
         ending_numbers: 4096,
         ending_floats: 1024,
     };
-    let v = checks::check(
+    let judged = checks::check(
         alpha,
         beta,
         prior,
@@ -77,5 +83,5 @@ pub extern "C" fn cut_graph(
         pairs,
         lent,
     );
-    cut_judged(v, words, grades, evidence, pairs)
+    cut_judged(judged, words, grades, evidence, pairs)
 }

@@ -2,13 +2,12 @@
 #![tactic(auto)]
 
 ghost use Rattle.std.specs.Prelude.{◌≡◌, map};
-ghost use Rattle.array_utils.specs.LogTable.{log_table};
 ghost use Rattle.bench.specs.Leaves.{exp_leaf, log_normalize_leaf, leaf_of};
 ghost use Rattle.bench.specs.Tree.{tree_of};
 
 pub mod graph;
 
-use array_utils::VariableMessage;
+use array_utils::{LogTable, VariableMessage};
 
 // Above 0, and at NaN, nothing changes.
 fn exp_leaf(y: f32) -> f32
@@ -18,8 +17,7 @@ fn exp_leaf(y: f32) -> f32
 }
 
 // From the logarithms x and 0, what the absent share has over the present one. What is not finite is left as it is.
-fn log_normalize_leaf(table: &[f32; 1025], x: f32) -> f32
-    requires { table.now ≡ log_table }
+fn log_normalize_leaf(table: &LogTable, x: f32) -> f32
     ensures { result ≡ log_normalize_leaf x }
 {
     if x <= 3.4028234e38 {
@@ -35,12 +33,11 @@ fn log_normalize_leaf(table: &[f32; 1025], x: f32) -> f32
     x
 }
 
-fn leaf(table: &[f32; 1025], which: u32, x: f32) -> f32
-    requires { table.now ≡ log_table }
+fn leaf(table: &LogTable, which: u32, x: f32) -> f32
     ensures { result ≡ leaf_of which x }
 {
     if which == 0 {
-        return array_utils::ln_from_table(table, x);
+        return table.ln(x);
     }
     if which == 1 {
         return exp_leaf(x);
@@ -51,16 +48,14 @@ fn leaf(table: &[f32; 1025], which: u32, x: f32) -> f32
     array_utils::powi(x, which - 3)
 }
 
-// 0 is ln_from_table, 1 exp, 2 log_normalize, and 3 + n the power n.
+// 0 is ln, 1 exp, 2 log_normalize, and 3 + n the power n.
 #[unsafe(no_mangle)]
 pub extern "C" fn leaf_all(which: u32, xs: &mut [f32])
     ensures { xs.new ≡ map (leaf_of which) xs.old }
 {
-    let table = array_utils::log_table();
-    let mut i = 0;
-    while i < xs.len() {
-        xs[i] = leaf(&table, which, xs[i]);
-        i += 1;
+    let table = LogTable::new();
+    for x in xs.iter_mut() {
+        *x = leaf(&table, which, *x);
     }
 }
 

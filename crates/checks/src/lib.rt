@@ -10,18 +10,9 @@ ghost use Rattle.checks.specs.Verdicts.{place_of, verdict_of, buffers_of, graph_
 ghost use Rattle.checks.specs.Marks.{digit, InGrid, cell_of};
 ghost use Rattle.checks.specs.Slices.{pair_at};
 
-#[derive(Clone, Copy)]
-pub enum Verdict {
-    Accepted,
-    Refused(u32, u32),
-}
+mod refusal;
 
-// The lowest place at which a test is true: where a check fails, or what a search finds.
-#[derive(Clone, Copy)]
-pub enum Place {
-    Nowhere,
-    At(u32),
-}
+pub use crate::refusal::{Check, FileRefusal, Refusal, refuse};
 
 // How many entries each buffer has that the caller lends.
 #[derive(Clone, Copy)]
@@ -43,46 +34,40 @@ const LEAST_EVIDENCE: f32 = 0.00006103515625;
 
 // ---- 1 and 2: sizes
 
-fn check_sizes(grades: u32, evidence: &[f32], pairs: &[u32]) -> Place
+fn check_sizes(grades: u32, evidence: &[f32], pairs: &[u32]) -> Option<u32>
     ensures { place_of result ≡ lowest_place (too_many 1024 1024 8192 (bale_of grades evidence.now pairs.now) ∷ []) }
 {
-    if 1024 < grades {
-        return Place::At(0);
+    if 1024 < grades || 1024 < evidence.len() / 2 || 8192 < pairs.len() / 2 {
+        return Some(0);
     }
-    if 1024 < evidence.len() / 2 {
-        return Place::At(0);
-    }
-    if 8192 < pairs.len() / 2 {
-        return Place::At(0);
-    }
-    Place::Nowhere
+    None
 }
 
-fn check_buffers(grades: u32, evidence: &[f32], pairs: &[u32], buffers: Buffers) -> Place
+fn check_buffers(grades: u32, evidence: &[f32], pairs: &[u32], buffers: Buffers) -> Option<u32>
     requires { Sized (bale_of grades evidence.now pairs.now) }
     ensures { place_of result ≡ lowest_place (too_small (buffers_of buffers) (bale_of grades evidence.now pairs.now) ∷ []) }
 {
     let count = grades as usize;
     let work = 64 * (count + evidence.len() / 2 + pairs.len() / 2) + 4096;
     if buffers.work_floats < work {
-        return Place::At(0);
+        return Some(0);
     }
     if buffers.work_numbers < work {
-        return Place::At(0);
+        return Some(0);
     }
     if buffers.belief_numbers < count {
-        return Place::At(0);
+        return Some(0);
     }
     if buffers.belief_floats < 2 * count {
-        return Place::At(0);
+        return Some(0);
     }
     if buffers.ending_numbers < 4 * count {
-        return Place::At(0);
+        return Some(0);
     }
     if buffers.ending_floats < count {
-        return Place::At(0);
+        return Some(0);
     }
-    Place::Nowhere
+    None
 }
 
 // ---- 3 and 4: settings
@@ -91,25 +76,22 @@ fn check_buffers(grades: u32, evidence: &[f32], pairs: &[u32], buffers: Buffers)
 fn is_outside(least: f32, greatest: f32, x: f32) -> bool
     ensures { result ≡ outside least greatest x }
 {
-    if least <= x && x <= greatest {
-        return false;
-    }
-    true
+    !(least <= x && x <= greatest)
 }
 
-fn check_probabilities(alpha: f32, beta: f32, prior: f32) -> Place
+fn check_probabilities(alpha: f32, beta: f32, prior: f32) -> Option<u32>
     ensures { place_of result ≡ lowest_place (map (outside least_probability greatest_probability) (alpha ∷ beta ∷ prior ∷ [])) }
 {
     if is_outside(LEAST_PROBABILITY, GREATEST_PROBABILITY, alpha) {
-        return Place::At(0);
+        return Some(0);
     }
     if is_outside(LEAST_PROBABILITY, GREATEST_PROBABILITY, beta) {
-        return Place::At(1);
+        return Some(1);
     }
     if is_outside(LEAST_PROBABILITY, GREATEST_PROBABILITY, prior) {
-        return Place::At(2);
+        return Some(2);
     }
-    Place::Nowhere
+    None
 }
 
 // Negative, infinite or NaN. The bits are infinity's.
@@ -125,16 +107,16 @@ fn is_bad_tolerance(tolerance: f32) -> bool
     true
 }
 
-fn check_stopping(tolerance: f32, loop_limit: u32) -> Place
+fn check_stopping(tolerance: f32, loop_limit: u32) -> Option<u32>
     ensures { place_of result ≡ lowest_place (bad_tolerance tolerance ∷ ltb 1000000 loop_limit ∷ []) }
 {
     if is_bad_tolerance(tolerance) {
-        return Place::At(0);
+        return Some(0);
     }
     if 1000000 < loop_limit {
-        return Place::At(1);
+        return Some(1);
     }
-    Place::Nowhere
+    None
 }
 
 // ---- 5: evidence
@@ -143,25 +125,20 @@ fn is_bad_evidence(evidence: &[f32], marker: usize) -> bool
     requires { marker < length evidence.now / 2 }
     ensures { result ≡ get_or (map bad_evidence (markers_of evidence.now)) marker false }
 {
-    if is_outside(LEAST_EVIDENCE, 1.0, evidence[2 * marker]) {
-        return true;
-    }
-    is_outside(LEAST_EVIDENCE, 1.0, evidence[2 * marker + 1])
+    is_outside(LEAST_EVIDENCE, 1.0, evidence[2 * marker])
+        || is_outside(LEAST_EVIDENCE, 1.0, evidence[2 * marker + 1])
 }
 
-fn check_evidence(evidence: &[f32]) -> Place
+fn check_evidence(evidence: &[f32]) -> Option<u32>
     requires { length evidence.now / 2 ≤ 1024 }
     ensures { place_of result ≡ lowest_place (map bad_evidence (markers_of evidence.now)) }
 {
-    let markers = evidence.len() / 2;
-    let mut m: usize = 0;
-    while m < markers {
+    for m in 0..evidence.len() / 2 {
         if is_bad_evidence(evidence, m) {
-            return Place::At(m as u32);
+            return Some(m as u32);
         }
-        m += 1;
     }
-    Place::Nowhere
+    None
 }
 
 // ---- 6: pairs of what is there
@@ -170,29 +147,19 @@ fn is_unknown_pair(grades: u32, evidence: &[f32], pairs: &[u32], pair: usize) ->
     requires { pair < length pairs.now / 2 }
     ensures { result ≡ get_or (map (unknown_pair (bale_of grades evidence.now pairs.now)) (pairs_of pairs.now)) pair false }
 {
-    if grades <= pairs[2 * pair] {
-        return true;
-    }
-    let marker = pairs[2 * pair + 1] as usize;
-    if evidence.len() / 2 <= marker {
-        return true;
-    }
-    false
+    grades <= pairs[2 * pair] || evidence.len() / 2 <= pairs[2 * pair + 1] as usize
 }
 
-fn check_pairs_known(grades: u32, evidence: &[f32], pairs: &[u32]) -> Place
+fn check_pairs_known(grades: u32, evidence: &[f32], pairs: &[u32]) -> Option<u32>
     requires { length pairs.now / 2 ≤ 8192 }
     ensures { place_of result ≡ lowest_place (map (unknown_pair (bale_of grades evidence.now pairs.now)) (pairs_of pairs.now)) }
 {
-    let count = pairs.len() / 2;
-    let mut pair: usize = 0;
-    while pair < count {
+    for pair in 0..pairs.len() / 2 {
         if is_unknown_pair(grades, evidence, pairs, pair) {
-            return Place::At(pair as u32);
+            return Some(pair as u32);
         }
-        pair += 1;
     }
-    Place::Nowhere
+    None
 }
 
 // ---- 7: a pair given before. Each pair passed leaves a mark: one binary digit to a grade and a marker,
@@ -223,26 +190,22 @@ fn cell(pairs: &[u32], pair: usize) -> usize
     1024 * marker + grade
 }
 
-fn check_repeated(pairs: &[u32]) -> Place
+fn check_repeated(pairs: &[u32]) -> Option<u32>
     requires pairs_len_bound { length pairs.now / 2 ≤ 8192 }
     requires in_grid { InGrid (pairs_of pairs.now) }
     ensures { place_of result ≡ lowest_place (repeated_pairs [] (pairs_of pairs.now)) }
 {
     let mut marks = [0u32; 32768];
-    let count = pairs.len() / 2;
-    let mut i: usize = 0;
-    while i < count {
-        let next = i + 1;
+    for i in 0..pairs.len() / 2 {
         let k = cell(pairs, i);
         let word = marks[k / 32];
         let bit = (k % 32) as u32;
         if has_mark(word, bit) {
-            return Place::At(i as u32);
+            return Some(i as u32);
         }
         marks[k / 32] = with_mark(word, bit);
-        i = next;
     }
-    Place::Nowhere
+    None
 }
 
 // ---- 8: a marker with over 128 grades
@@ -254,16 +217,12 @@ fn count_grades(pairs: &[u32], counts: &mut [u32; 1024])
     requires counts_value { counts.old ≡ replicate 1024 0 }
     ensures { (m : ℕ) → m < 1024 → get_or counts.new m 0 ≡ length (grades_of (pairs_of pairs.now) m) }
 {
-    let count = pairs.len() / 2;
-    let mut i: usize = 0;
-    while i < count {
-        let m = pairs[2 * i + 1] as usize;
-        counts[m] += 1;
-        i += 1;
+    for i in 0..pairs.len() / 2 {
+        counts[pairs[2 * i + 1] as usize] += 1;
     }
 }
 
-fn check_shared(grades: u32, evidence: &[f32], pairs: &[u32]) -> Place
+fn check_shared(grades: u32, evidence: &[f32], pairs: &[u32]) -> Option<u32>
     requires evidence_len_bound { (length evidence.now / 2 ≤ 1024) × (length pairs.now / 2 ≤ 8192) }
     requires in_grid { InGrid (pairs_of pairs.now) }
     ensures { place_of result ≡ lowest_place (map (too_many_grades (bale_of grades evidence.now pairs.now)) (marker_numbers (bale_of grades evidence.now pairs.now))) }
@@ -271,36 +230,28 @@ fn check_shared(grades: u32, evidence: &[f32], pairs: &[u32]) -> Place
     let mut counts = [0u32; 1024];
     count_grades(pairs, &mut counts);
     let markers = evidence.len() / 2;
-    let mut m: usize = 0;
-    while m < markers {
-        if 128 < counts[m] {
-            return Place::At(m as u32);
+    for (m, count) in counts[..markers].iter().enumerate() {
+        if 128 < *count {
+            return Some(m as u32);
         }
-        m += 1;
     }
-    Place::Nowhere
+    None
 }
 
 // ---- all
 
 // 5 to 8
-fn check_graph(grades: u32, evidence: &[f32], pairs: &[u32]) -> Verdict
+fn check_graph(grades: u32, evidence: &[f32], pairs: &[u32]) -> Result<(), Refusal>
     requires { Sized (bale_of grades evidence.now pairs.now) }
     ensures { verdict_of result ≡ graph_verdict (bale_of grades evidence.now pairs.now) }
 {
-    if let Place::At(p) = check_evidence(evidence) {
-        return Verdict::Refused(5, p);
-    }
-    if let Place::At(p) = check_pairs_known(grades, evidence, pairs) {
-        return Verdict::Refused(6, p);
-    }
-    if let Place::At(p) = check_repeated(pairs) {
-        return Verdict::Refused(7, p);
-    }
-    if let Place::At(p) = check_shared(grades, evidence, pairs) {
-        return Verdict::Refused(8, p);
-    }
-    Verdict::Accepted
+    refuse(Check::Evidence, check_evidence(evidence))?;
+    refuse(
+        Check::UnknownPair,
+        check_pairs_known(grades, evidence, pairs),
+    )?;
+    refuse(Check::RepeatedPair, check_repeated(pairs))?;
+    refuse(Check::CrowdedMarker, check_shared(grades, evidence, pairs))
 }
 
 // The first check that fails, by number, and within a number at the lowest place.
@@ -315,20 +266,15 @@ pub fn check(
     evidence: &[f32],
     pairs: &[u32],
     buffers: Buffers,
-) -> Verdict
+) -> Result<(), Refusal>
     ensures { verdict_of result ≡ verdict (settings_of alpha beta prior regularised tolerance loop_limit) (buffers_of buffers) (bale_of grades evidence.now pairs.now) }
 {
-    if let Place::At(p) = check_sizes(grades, evidence, pairs) {
-        return Verdict::Refused(1, p);
-    }
-    if let Place::At(p) = check_buffers(grades, evidence, pairs, buffers) {
-        return Verdict::Refused(2, p);
-    }
-    if let Place::At(p) = check_probabilities(alpha, beta, prior) {
-        return Verdict::Refused(3, p);
-    }
-    if let Place::At(p) = check_stopping(tolerance, loop_limit) {
-        return Verdict::Refused(4, p);
-    }
+    refuse(Check::TooMany, check_sizes(grades, evidence, pairs))?;
+    refuse(
+        Check::BuffersTooSmall,
+        check_buffers(grades, evidence, pairs, buffers),
+    )?;
+    refuse(Check::Probability, check_probabilities(alpha, beta, prior))?;
+    refuse(Check::Stopping, check_stopping(tolerance, loop_limit))?;
     check_graph(grades, evidence, pairs)
 }

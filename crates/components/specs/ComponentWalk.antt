@@ -242,17 +242,6 @@ module _ (n e s at v : ℕ) (w : List ℕ) (count top : ℕ) (m : Meeting n e s 
     visit_stored j k p q =
         ap (λ (x : Memory). walk_of x (count + 1) (top + 1)) (meet_stored n e s at w v count top i j k at_i p q m.node meeting_room.1) ∙ sym visit-one
 
--- the two ways of the test for the other end, of the edge k in slot i
-module _ (n s : ℕ) (w : List ℕ) (v i k a : ℕ) (slot : k ≡ slot_of n s w i) (one : a ≡ get_or w (3 + 3 * n + s + 5 * k) 0) where
-  end-one : a ≡ end_of n s w k 0
-  end-one = one ∙ ap (λ (j : ℕ). get_or w j 0) (sym (add-zero (3 + 3 * n + s + 5 * k)))
-
-  pub other_two : v ≡ a → get_or w (3 + 3 * n + s + 5 * k + 1) 0 ≡ other_end_of n s w v (slot_of n s w i)
-  other_two h = rw (← slot, ← end-one, h, eqb_same a)
-
-  pub other_one : (v ≡ a → ⊥) → get_or w (3 + 3 * n + s + 5 * k) 0 ≡ other_end_of n s w v (slot_of n s w i)
-  other_one h = rw (← slot, ← end-one, ← one, not-true (eqb v a) (λ q. h (eqb_sound v a q)))
-
 -- ---- the walk, until the stack is empty
 
 -- the top of the stack is taken, its place set to 0, and its neighbours are visited

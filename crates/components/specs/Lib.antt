@@ -1,4 +1,5 @@
 pub mod ComponentMemory
+pub mod ComponentFilled
 pub mod ComponentWalk
 pub mod ComponentVisit
 pub mod ComponentRecord

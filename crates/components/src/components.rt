@@ -3,7 +3,6 @@ ghost use Rattle.std.specs.Prelude.{◌≡◌, ◌+◌, ◌-◌, ◌*◌, ◌≤
 ghost use Rattle.components.specs.ComponentMemory.{memory, out_at};
 ghost use Rattle.components.specs.ComponentWalk.{walk_of, first_of, slot_of, other_end_of, Meeting, visit_node, Visiting, visit_neighbours, Walking, walked};
 ghost use Rattle.components.specs.ComponentRecorded.{recorded_of};
-ghost use Rattle.list_laws.specs.Write.{write};
 ghost use Rattle.definition.specs.FactorGraph.{Bale};
 ghost use Rattle.components.specs.ComponentReady.{Ready, ReadyOf, Done};
 ghost use Rattle.components.specs.ComponentAll.{Finding, all_of, all_from};
@@ -16,18 +15,12 @@ pub struct Met {
     pub top: usize,
 }
 
-pub fn wide(x: u32) -> usize
-    ensures { result ≡ x }
-{
-    x as usize
-}
-
 // Where the slots of node v begin.
 pub fn first_slot(words: &[u32], n: usize, s: usize, v: usize) -> usize
     requires { 2 + 2 * n + v < length words.now }
     ensures { result ≡ first_of n s words.now v }
 {
-    wide(words[2 + 2 * n + v])
+    words[2 + 2 * n + v] as usize
 }
 
 // The other end, seen from v, of the edge in slot i.
@@ -36,10 +29,10 @@ fn neighbour(words: &[u32], n: usize, s: usize, v: usize, i: usize) -> u32
     requires i_in_bounds_2 { 3 + 3 * n + s + 5 * slot_of n s words.now i + 1 < length words.now }
     ensures { result ≡ other_end_of n s words.now v (slot_of n s words.now i) }
 {
-    let k = wide(words[3 + 3 * n + i]);
+    let k = words[3 + 3 * n + i] as usize;
     let at = 3 + 3 * n + s + 5 * k;
     let one = words[at];
-    if v == wide(one) {
+    if v == one as usize {
         return words[at + 1];
     }
     one
@@ -80,13 +73,12 @@ fn visit_neighbours(
     requires visiting { Visiting n e s at v (walk_of (memory n e s words.old) met.count met.top) }
     ensures { walk_of (memory n e s words.new) result.count result.top ≡ visit_neighbours n s at v (walk_of (memory n e s words.old) met.count met.top) }
 {
+    let first = first_slot(words, n, s, v);
     let last = first_slot(words, n, s, v + 1);
-    let mut i = first_slot(words, n, s, v);
     let mut m = met;
-    while i < last {
+    for i in first..last {
         let w = neighbour(words, n, s, v, i);
         m = visit_node(words, n, e, s, at, w, m);
-        i += 1;
     }
     m
 }
@@ -103,7 +95,7 @@ fn walk(words: &mut [u32], n: usize, e: usize, s: usize, at: usize, met: Met) ->
     let mut m = met;
     while m.top > 0 {
         let top = m.top - 1;
-        let v = wide(words[stack + top]);
+        let v = words[stack + top] as usize;
         words[stack + top] = 0;
         let popped = Met {
             count: m.count,
@@ -120,14 +112,12 @@ pub fn next_start(words: &[u32], n: usize, e: usize, s: usize, from: usize) -> u
     ensures { result ≡ next_free (memory n e s words.now).node_numbers from (n - from) }
 {
     let numbers = 3 + 3 * n + s + 5 * e;
-    let mut i = from;
-    while i < n {
+    for i in from..n {
         if words[numbers + i] == 0 {
             return i;
         }
-        i += 1;
     }
-    i
+    n
 }
 
 // The component of node v: walks it, and writes its record at place `at` of the records. Where the record ends.
@@ -156,6 +146,7 @@ pub fn find_components(words: &mut [u32], n: usize, e: usize, s: usize) -> Found
     let mut at = 0;
     let mut count = 0;
     let mut v = next_start(words, n, e, s, 0);
+    // v moves on to the next node that no component has yet.
     while v < n {
         at = component(words, n, e, s, at, v);
         count += 1;
@@ -167,18 +158,6 @@ pub fn find_components(words: &mut [u32], n: usize, e: usize, s: usize) -> Found
     }
 }
 
-// Sets n words to 0.
-pub fn clear(words: &mut [u32], from: usize, n: usize)
-    requires { from + n ≤ length words.old }
-    ensures { words.new ≡ write words.old from n (λ k. 0) }
-{
-    let mut i = 0;
-    while i < n {
-        words[from + i] = 0;
-        i += 1;
-    }
-}
-
 // The connected components of the built graph whose record is at the front of the words, with n nodes, e edges and s slots: behind it
 // the scratch, set to 0, and behind that the components' records, one after the other. How many there are, and where the last one ends.
 pub fn connected_components(words: &mut [u32], n: usize, e: usize, s: usize) -> Found
@@ -186,11 +165,12 @@ pub fn connected_components(words: &mut [u32], n: usize, e: usize, s: usize) -> 
     ensures { (b : Bale) → Ready b n e s words.old → Done b n e s words.old words.new result.count result.end }
 {
     let graph = 3 + 3 * n + s + 5 * e;
-    clear(words, graph, n + e + n);
+    let records = graph + n + e + n;
+    words[graph..records].fill(0);
     let found = find_components(words, n, e, s);
-    clear(words, graph, n + e + n);
+    words[graph..records].fill(0);
     Found {
         count: found.count,
-        end: graph + n + e + n + found.end,
+        end: records + found.end,
     }
 }

@@ -8,7 +8,7 @@ ghost use Rattle.factor_graph.specs.Build.{Buildable};
 ghost use Rattle.components.specs.ComponentBuiltWords.{node_total, edge_total, slot_total};
 ghost use Rattle.components.specs.ComponentReady.{Done};
 
-use crate::components::{Found, connected_components, wide};
+use crate::components::{Found, connected_components};
 
 // The built graph's record at the front of the words, then the scratch, set to 0, and then the components' records.
 // How many components there are, and where the last record ends. An edge has two slots.
@@ -18,7 +18,7 @@ pub fn build_components(words: &mut [u32], grades: u32, markers: u32, pairs: &[u
     ensures { (b : Bale) → b.grades ≡ grades → length b.markers ≡ markers → b.pairs ≡ pairs_of pairs.now → Done b (node_total b) (edge_total b) (slot_total b) (put words.old 0 (built_words b)) words.new result.count result.end }
 {
     factor_graph::build::build(words, grades, markers, pairs);
-    let n = wide(words[0]);
-    let e = wide(words[1]);
+    let n = words[0] as usize;
+    let e = words[1] as usize;
     connected_components(words, n, e, 2 * e)
 }

@@ -1,24 +1,11 @@
 // The record of a component, once its nodes are known: kinds, labels, first slots, slots and edges.
-ghost use Rattle.std.specs.Prelude.{◌≡◌, ◌⊎◌, ℕ, ◌+◌, ◌-◌, ◌≤◌, ◌<◌, length, get_or};
-ghost use Rattle.list_laws.specs.Write.{write};
+ghost use Rattle.std.specs.Prelude.{◌≡◌, ◌⊎◌, ℕ, ◌+◌, ◌≤◌, ◌<◌, length, get_or};
 ghost use Rattle.components.specs.ComponentMemory.{memory, with_out};
 ghost use Rattle.components.specs.ComponentRecord.{looked_up, degree_at, slots_of, ListingOne, list_one, Listing, listed, edge_out, seen_of, number_edge, see_slots};
 ghost use Rattle.components.specs.ComponentEdges.{EdgeRoom, Numbering, Seeing};
 ghost use Rattle.components.specs.ComponentRecorded.{Recording, recorded_of, recorded};
 
-use crate::components::{first_slot, wide};
-
-// Copies n words to a place further on.
-fn copy(words: &mut [u32], from: usize, to: usize, n: usize)
-    requires { (from + n ≤ to) × (to + n ≤ length words.old) }
-    ensures { words.new ≡ write words.old to n (λ k. get_or words.old (from + k) 0) }
-{
-    let mut i = 0;
-    while i < n {
-        words[to + i] = words[from + i];
-        i += 1;
-    }
-}
+use crate::components::first_slot;
 
 // Writes, for each of n numbers, what stands there in a table; in place, or further on.
 fn look_up(words: &mut [u32], table: usize, from: usize, to: usize, n: usize)
@@ -27,11 +14,9 @@ fn look_up(words: &mut [u32], table: usize, from: usize, to: usize, n: usize)
     requires by_index { (k : ℕ) → k < n → table + get_or words.old (from + k) 0 < to }
     ensures { words.new ≡ looked_up words.old table from to n }
 {
-    let mut i = 0;
-    while i < n {
-        let k = wide(words[from + i]);
+    for i in 0..n {
+        let k = words[from + i] as usize;
         words[to + i] = words[table + k];
-        i += 1;
     }
 }
 
@@ -51,16 +36,16 @@ fn write_list(
     ensures value { result ≡ total + degree_at n s at count (memory n e s words.old).graph (memory n e s words.old).out i }
 {
     let nodes = 3 + 3 * n + s + 5 * e + n + e + n + at + 2;
-    let v = wide(words[nodes + i]);
+    let v = words[nodes + i] as usize;
     let first = first_slot(words, n, s, v);
     let degree = first_slot(words, n, s, v + 1) - first;
     words[nodes + 2 * count + i] = total as u32;
-    copy(
-        words,
-        3 + 3 * n + first,
-        nodes + 1 + 3 * count + total,
-        degree,
-    );
+    let from = 3 + 3 * n + first;
+    let to = nodes + 1 + 3 * count + total;
+    // Most lists are so short that `copy_within` takes longer.
+    for j in 0..degree {
+        words[to + j] = words[from + j];
+    }
     total + degree
 }
 
@@ -71,23 +56,11 @@ fn write_lists(words: &mut [u32], n: usize, e: usize, s: usize, at: usize, count
     ensures value { result ≡ slots_of n s at count (memory n e s words.old).graph (memory n e s words.old).out count }
 {
     let mut total = 0;
-    let mut i = 0;
-    while i < count {
+    for i in 0..count {
         total = write_list(words, n, e, s, at, count, i, total);
-        i += 1;
     }
     words[3 + 3 * n + s + 5 * e + n + e + n + at + 2 + 3 * count] = total as u32;
     total
-}
-
-// One less, and nothing less than 0.
-fn less_one(x: u32) -> u32
-    ensures { result ≡ x - 1 }
-{
-    if x == 0 {
-        return 0;
-    }
-    x - 1
 }
 
 // The five words of edge k: its ends by their numbers in the component, and the rest as it stands in the graph.
@@ -97,10 +70,10 @@ fn write_edge(words: &mut [u32], n: usize, e: usize, s: usize, to: usize, k: usi
 {
     let edge = 3 + 3 * n + s + 5 * k;
     let numbers = 3 + 3 * n + s + 5 * e;
-    let one = wide(words[edge]);
-    let two = wide(words[edge + 1]);
-    let node1 = less_one(words[numbers + one]);
-    let node2 = less_one(words[numbers + two]);
+    let one = words[edge] as usize;
+    let two = words[edge + 1] as usize;
+    let node1 = words[numbers + one].saturating_sub(1);
+    let node2 = words[numbers + two].saturating_sub(1);
     let node2_in_node1 = words[edge + 2];
     let node1_in_node2 = words[edge + 3];
     let length = words[edge + 4];
@@ -150,12 +123,10 @@ fn number_edges(
     let numbers = 3 + 3 * n + s + 5 * e + n;
     let first = numbers + e + n + from;
     let mut count = 0;
-    let mut i = 0;
-    while i < total {
-        let k = wide(words[first + i]);
+    for i in 0..total {
+        let k = words[first + i] as usize;
         count = number_edge(words, n, e, s, to, k, count);
-        words[first + i] = less_one(words[numbers + k]);
-        i += 1;
+        words[first + i] = words[numbers + k].saturating_sub(1);
     }
     count
 }

@@ -124,6 +124,3 @@ correlation-turn n j r b l w v h g e f q =
 
     swap : (a b : ℕ) → a + b ≡ b + a
     swap a b = omega arith
-
-pub correlation-all : (n j : ℕ) (b l w : List Float) → length b ≤ j → w ≡ correlation n (take j b) l → w ≡ correlation n b l
-correlation-all n j b l w h e = e ∙ ap (λ (t : List Float). correlation n t l) (take_all j b h)

@@ -3,7 +3,7 @@ use Rattle.std.specs.Prelude.{◌≡◌, refl, List, [], ◌∷◌, ◌++◌, �
 use Rattle.std.proofs.Common.{sym, ap, ◌∙◌, inl, append_assoc, append-nil, suc-mul, zero-mul, mul-le-mul_right, add-one, arith, length-append, length-drop, drop-drop, length-take-le}
 use Rattle.std.specs.Float.{nan}
 use Rattle.list_laws.specs.Part.{region}
-use Rattle.list_laws.specs.Put.{put, length-put, put_next, put-none, region-out}
+use Rattle.list_laws.specs.Put.{put, put_next, put-none, region-out}
 use Rattle.definition.specs.Vectors.{normalize}
 use Rattle.definition.specs.ConvolutionTree.{convolve, count_layer}
 use Rattle.graph_laws.specs.Flat.{flat}
@@ -80,9 +80,6 @@ module _ (l : List Float) (at count m out : ℕ) (below : at + 2 * (count * m) �
   pub up_start : l ≡ put l out (made_up 0)
   unfolding count_layer flat
   up_start = put-none l out (omega arith)
-
-  pub up-length : (i : ℕ) → i ≤ count → length (put l out (made_up i)) ≡ length l
-  up-length i h = let b = bound-up i h in length-put l out (made_up i) (omega (arith, length-made_up i h))
 
   -- the next two nodes and their place, in range
   pub next_fits : (i : ℕ) → i < count → (at + 2 * (i * m) + m + m ≤ out) × (out + i * (m + m - 1) + (m + m - 1) ≤ length l)

@@ -1,26 +1,14 @@
--- Ranges copied, exchanged and cleared: what the parts of the whole leave.
-use Rattle.std.specs.Prelude.{◌≡◌, List, ◌++◌, ℕ, ◌+◌, ◌-◌, ◌≤◌, length, get_or, take, drop, replicate, Float}
-use Rattle.std.proofs.Common.{sym, ap, ◌∙◌, inr, append_assoc, zero-add, not-suc-le-zero, arith, length-append, length-drop, take_at, drop_at, drop-drop, length-take-le}
-use Rattle.std.proofs.lemmas.List.{length-replicate, length-map}
-use Rattle.std.specs.Float.{nan}
-use Rattle.list_laws.specs.Write.{write, length-write, write_in, write-above}
-use Rattle.list_laws.specs.Part.{region, get_d_region, length-region}
-use Rattle.list_laws.specs.Put.{put, put_is, put_again, region-out}
+-- Ranges exchanged and cleared: what the parts of the whole leave.
+use Rattle.std.specs.Prelude.{◌≡◌, List, ◌++◌, ℕ, ◌+◌, ◌-◌, ◌≤◌, length, take, drop, replicate, Float}
+use Rattle.std.proofs.Common.{sym, ap, ◌∙◌, append_assoc, zero-add, arith, length-append, length-drop, take_at, drop_at, drop-drop, length-take-le}
+use Rattle.std.proofs.lemmas.List.{length-replicate, length-map, take-append-le, take-append-drop}
+use Rattle.std.proofs.lemmas.Slice.{between_is, drop-append-drop}
+use Rattle.std.proofs.Math.Seq.{take-append-add}
+use Rattle.list_laws.specs.Part.{region, length-region}
+use Rattle.list_laws.specs.Put.{put, put-part}
 use Rattle.definition.specs.Floats.{zeroᶠ, avoid_underflow}
 use Rattle.definition.specs.Vectors.{avoid_underflow_all}
-use Rattle.convolution_tree.specs.Zeros.{zeros-back}
-use Rattle.convolution_tree.specs.Lent.{lent-part}
 use Rattle.convolution_tree.specs.WayDown.{put-start}
-
--- a range copied to the start
-pub copied : (w : List Float) (at n : ℕ) → at + n ≤ length w → write w 0 n (λ i. get_or w (at + i) nan) ≡ put w 0 (region w at n)
-copied w at n h =
-    let f : ℕ → Float = λ i. get_or w (at + i) nan in
-    let k : length (region w at n) ≡ n = length-region w at n h in
-    put_is nan (write w 0 n f) w 0 (region w at n) (omega arith) (length-write w 0 n f)
-    (λ i q. write_in w 0 n i f nan (omega arith) (omega arith) ∙ sym (get_d_region w at n i nan (omega arith)))
-    (λ j q. absurd (not-suc-le-zero q))
-    (λ j q. write-above w 0 n j f nan (omega arith))
 
 -- a range raised, and what follows it cleared
 pub length_raised : (l : List Float) → length (avoid_underflow_all l) ≡ length l
@@ -47,38 +35,21 @@ finished w v u e end h fits f g =
     ∙ sym (append_assoc x z (drop (e + (end - e)) w))
     ∙ ap (λ (k : ℕ). (x ++ z) ++ drop k w) y
 
--- the start and a range behind it, by way of the front of t
-module _ (w t : List Float) (at n : ℕ) (zs : t ≡ replicate 130 zeroᶠ) (small : n ≤ 130) (below : n ≤ at) (fits : at + n ≤ length w) where
-  cleared-put : (x : List Float) → x ≡ replicate (length (take n w)) zeroᶠ → x ++ drop n w ≡ put w 0 (replicate n zeroᶠ)
-  cleared-put x e =
-      let lt : length (take n w) ≡ n = length-take-le n w (omega (arith, fits)) in
-      ap (λ (u : List Float). u ++ drop n w) (e ∙ ap (λ (k : ℕ). replicate k zeroᶠ) lt)
-      ∙ sym (put-start w (replicate n zeroᶠ) ∙ ap (λ (k : ℕ). replicate n zeroᶠ ++ drop k w) (zero-add (length (replicate n zeroᶠ)) ∙ length-replicate n zeroᶠ))
-
-  -- what t holds meanwhile
-  module _ (u : List Float) (d : u ≡ take n w) where
-    pub held-long : length u ≡ n
-    held-long = ap length d ∙ length-take-le n w (omega (arith, fits))
-
-    pub held : take n (u ++ drop n t) ≡ u
-    held = take_at u (drop n t) n held-long
-
-    pub held_back : (v : List Float) → v ≡ replicate (length (take n (u ++ drop n t))) zeroᶠ → v ++ drop n (u ++ drop n t) ≡ replicate 130 zeroᶠ
-    held_back v e =
-        ap (λ (y : List Float). v ++ y) (drop_at u (drop n t) n held-long)
-        ∙ zeros-back t 130 n zs small v (e ∙ ap (λ (y : List Float). replicate (length y) zeroᶠ) held ∙ ap (λ (k : ℕ). replicate k zeroᶠ) held-long)
-
-    pub exchanged :
-        (x v y : List Float) → x ≡ replicate (length (take n w)) zeroᶠ → v ≡ put (x ++ drop n w) 0 (region (x ++ drop n w) at n) → y ≡ take n (u ++ drop n t) →
-        take at v ++ (y ++ drop (at + n - at) (drop at v)) ≡ put (put w 0 (region w at n)) at (region w 0 n)
-    exchanged x v y e f g =
-        let z = replicate n zeroᶠ in
-        let lz : length z ≡ n = length-replicate n zeroᶠ in
-        let r = region w at n in
-        let lr : length r ≡ n = length-region w at n fits in
-        let vr : v ≡ put w 0 r =
-        f
-        ∙ ap (λ (s : List Float). put s 0 (region s at n)) (cleared-put x e)
-        ∙ ap (put (put w 0 z) 0) (region-out nan w 0 z at n (omega (arith, fits, lz)) fits (inr (omega (arith, below, lz))))
-        ∙ put_again nan w 0 z r (omega (arith, fits, lz)) (lr ∙ sym lz) in
-        lent-part v y (take n w) at n (length-take-le n w (omega (arith, fits))) (g ∙ held ∙ d) ∙ ap (λ (s : List Float). put s at (take n w)) vr
+-- the start and a range behind it, f and b being the parts up to that range and from it on
+pub exchanged :
+    (w f b x y : List Float) (at n : ℕ) → n ≤ at → at + n ≤ length w → f ≡ take at w → b ≡ drop at w → x ≡ take n b → y ≡ take n f →
+    (x ++ drop n f) ++ (y ++ drop n b) ≡ put (put w 0 (region w at n)) at (region w 0 n)
+exchanged w f b x y at n below fits p q e g =
+    let r = region w at n in
+    let s = region w 0 n in
+    let v = r ++ drop n w in
+    let lr : length r ≡ n = length-region w at n fits in
+    let ls : length s ≡ n = length-region w 0 n (omega arith) in
+    let k : at ≡ length r + (at - n) = omega arith in
+    let first : put w 0 r ≡ v = put-start w r ∙ ap (λ (i : ℕ). r ++ drop i w) (zero-add (length r) ∙ lr) in
+    let front : take at v ≡ r ++ drop n (take at w) = ap (λ (i : ℕ). take i v) k ∙ take-append-add r (drop n w) (at - n) ∙ ap (λ (l : List Float). r ++ l) (between_is w n at) in
+    let back : drop at v ≡ drop at w = drop-append-drop n w r at below lr in
+    let la : length (take at w) ≡ at = length-take-le at w (omega arith) in
+    let moved : take n (take at w) ≡ s = sym (take-append-le n (take at w) (drop at w) (omega arith)) ∙ ap (take n) (take-append-drop at w) in
+    let whole : take at v ++ (s ++ drop n (drop at v)) ≡ put v at s = put-part v s at n ls in
+    cc

@@ -215,6 +215,9 @@ size_small n h = (log_length-least n).1 7 h
 
 -- ---- how many floats
 
+pub sized : (p l n : ℕ) → p ≡ log_length n → l ≡ 2 ^ log_length n → (p + 3) * l ≡ (log_length n + 3) * 2 ^ log_length n
+sized p l n e f = ap (λ (x : ℕ). (x + 3) * l) e ∙ ap (λ (x : ℕ). (log_length n + 3) * x) f
+
 pub size-bound : (n k : ℕ) → n ≤ 2 ^ k → (log_length n + 3) * 2 ^ log_length n ≤ (k + 3) * 2 ^ k
 size-bound n k h =
     let b : log_length n ≤ k = (log_length-least n).1 k h in

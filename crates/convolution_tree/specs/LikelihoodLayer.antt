@@ -4,7 +4,7 @@ use Rattle.std.proofs.Common.{sym, ap, ◌∙◌, inr, append_assoc, append-nil,
 use Rattle.std.proofs.lemmas.List.{length-replicate}
 use Rattle.std.specs.Float.{nan}
 use Rattle.list_laws.specs.Part.{region}
-use Rattle.list_laws.specs.Put.{put, length-put, put_next, put-none, region-out}
+use Rattle.list_laws.specs.Put.{put, put_next, put-none, region-out}
 use Rattle.definition.specs.Floats.{zeroᶠ}
 use Rattle.definition.specs.ConvolutionTree.{message_up, likelihoods_below}
 use Rattle.graph_laws.specs.Flat.{flat}
@@ -121,9 +121,6 @@ module _ (w : List Float) (likes nl at count m : ℕ) (ha : at + 2 * (count * m)
   pub down-start : w ≡ put w at (made_down 0)
   unfolding likelihoods_below flat
   down-start = put-none w at (omega arith)
-
-  pub down-length : (i : ℕ) → i ≤ count → length (put w at (made_down i)) ≡ length w
-  down-length i h = let b : i * m ≤ count * m = mul-le-mul_right m h in length-put w at (made_down i) (omega (arith, length-made_down i h))
 
   -- the next places, in range
   pub down_fits : (i : ℕ) → i < count → (at + 2 * (i * m) + m + m ≤ likes) × (likes + i * nl + nl ≤ length w)

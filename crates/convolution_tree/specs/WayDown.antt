@@ -9,7 +9,7 @@ use Rattle.std.proofs.Math.ListN.{length, take, length-append}
 use Rattle.std.proofs.Math.Seq.{take-append_seam, drop-append_seam, drop-append-add, length-take-le}
 use Rattle.std.specs.Float.Ieee.{nan}
 use Rattle.list_laws.specs.Part.{region, length-region}
-use Rattle.list_laws.specs.Put.{put, length-put, put_inner, put-region}
+use Rattle.list_laws.specs.Put.{put, put_inner, put-region}
 use Rattle.definition.specs.ConvolutionTree.{count_layer, likelihoods_below, tree_layers}
 use Rattle.graph_laws.specs.Flat.{flat}
 use Rattle.convolution_tree.specs.Nodes.{nodes, AllLong, length-nodes, nodes-long, nodes-flat, flat-length}
@@ -37,17 +37,14 @@ abbrev pub content : List Float → ℕ → ℕ → ℕ → ℕ → ℕ → List
 content w₀ p n nl root i = layers_from i (nodes 2 n w₀) ++ likelihood_rows (p - i) (region w₀ root nl) (layer_at i (nodes 2 n w₀))
 
 -- The likelihoods of layer i stand at `at`, c times f floats; below it the distributions are still there.
-abbrev pub Descending : List Float → ℕ → ℕ → ℕ → ℕ → List Float → ℕ → ℕ → ℕ → ℕ → ℕ → Type 0
-Descending w₀ p n nl root w at c m f i =
-    (i ≤ p)
-    × (length w ≡ length w₀)
-    × (c ≡ 2 ^ (p - i))
-    × (at ≡ length (layers_from i (nodes 2 n w₀)))
-    × (m ≡ 2 ^ i + 1)
-    × (m ≤ f + f)
-    × AllLong f (tree_layers (p - i) (region w₀ root nl) (layer_at i (nodes 2 n w₀))).likelihoods
-    × (w ≡ put w₀ 0 (content w₀ p n nl root i))
-    × (length (content w₀ p n nl root i) ≡ root + nl)
+pub record Descending (w₀ : List Float) (p n nl root : ℕ) (w : List Float) (at c m f i : ℕ) : Type 0 where
+  pub nodes_left : c ≡ 2 ^ (p - i)
+  pub from : at ≡ length (layers_from i (nodes 2 n w₀))
+  pub width : m ≡ 2 ^ i + 1
+  pub narrow : m ≤ f + f
+  pub long : AllLong f (tree_layers (p - i) (region w₀ root nl) (layer_at i (nodes 2 n w₀))).likelihoods
+  pub written : w ≡ put w₀ 0 (content w₀ p n nl root i)
+  pub sized : length (content w₀ p n nl root i) ≡ root + nl
 
 -- n leaves; the root's likelihood, nl floats, stands at root, behind the layers below it
 module _ (w₀ : List Float) (p n nl root : ℕ) (hn : n ≡ 2 ^ p) (leaves : 2 * n ≤ length w₀) (fits : root + nl ≤ length w₀) (grown : take root w₀ ≡ layers_from p (nodes 2 n w₀)) where
@@ -67,29 +64,28 @@ module _ (w₀ : List Float) (p n nl root : ℕ) (hn : n ≡ 2 ^ p) (leaves : 2 
       let r : length (layers_from p js) ≡ root = ap length (sym grown) ∙ length-take-le root w₀ (omega (arith, fits)) in
       let k : length l ≡ nl = length-region w₀ root nl fits in
       let t : content w₀ p n nl root p ≡ take (root + nl) w₀ =
-      ap (λ (x : ℕ). layers_from p js ++ likelihood_rows x l (layer_at p js)) z ∙ ap (λ (x : List Float). x ++ l) (sym grown) ∙ sym (take-add root nl w₀) in (
-        omega arith,
-        refl,
-        ap (λ (x : ℕ). 2 ^ x) (sym z),
-        sym r,
-        ap (λ (x : ℕ). x + 1) hn,
-        h,
-        subst (λ (x : ℕ). AllLong nl (tree_layers x l (layer_at p js)).likelihoods) (sym z) (root_long nl l (layer_at p js) k),
-        put-region nan w₀ 0 (root + nl) (omega (arith, fits)) ∙ ap (put w₀ 0) (sym t),
-        ap length t ∙ length-take-le (root + nl) w₀ fits,
-      )
+      ap (λ (x : ℕ). layers_from p js ++ likelihood_rows x l (layer_at p js)) z ∙ ap (λ (x : List Float). x ++ l) (sym grown) ∙ sym (take-add root nl w₀) in
+      record {
+        nodes_left = ap (λ (x : ℕ). 2 ^ x) (sym z);
+        from = sym r;
+        width = ap (λ (x : ℕ). x + 1) hn;
+        narrow = h;
+        long = subst (λ (x : ℕ). AllLong nl (tree_layers x l (layer_at p js)).likelihoods) (sym z) (root_long nl l (layer_at p js) k);
+        written = put-region nan w₀ 0 (root + nl) (omega (arith, fits)) ∙ ap (put w₀ 0) (sym t);
+        sized = ap length t ∙ length-take-le (root + nl) w₀ fits;
+      }
 
-  module _ (w : List Float) (at c m f k : ℕ) (s : Descending w₀ p n nl root w at c m f (suc k)) where
+  module _ (w : List Float) (at c m f k : ℕ) (s : Descending w₀ p n nl root w at c m f (suc k)) (same : length w ≡ length w₀) (more : suc k ≤ p) where
     q : ℕ
     q = p - suc k
 
     less : p - k ≡ suc q
     unfolding q
-    less = omega (arith, s.0)
+    less = omega (arith, more)
 
     whole : p ≡ k + suc q
     unfolding q
-    whole = omega (arith, s.0)
+    whole = omega (arith, more)
 
     abbrev own : List (List Float)
     own = layer_at k (nodes 2 n w₀)
@@ -111,11 +107,11 @@ module _ (w₀ : List Float) (p n nl root : ℕ) (hn : n ≡ 2 ^ p) (leaves : 2 
 
     nodes-above : c ≡ 2 ^ q
     unfolding q
-    nodes-above = s.2
+    nodes-above = s.nodes_left
 
     likes-long : AllLong f likes
     unfolding q
-    likes-long = subst (λ (x : List (List Float)). AllLong f (tree_layers (p - suc k) l x).likelihoods) (layer_above k js) s.6
+    likes-long = subst (λ (x : List (List Float)). AllLong f (tree_layers (p - suc k) l x).likelihoods) (layer_above k js) s.long
 
     likes-length : length likes ≡ c
     likes-length = likelihoods_length q (2 ^ k + 1 + (2 ^ k + 1) - 1) n l (count_layer own) above_shape ∙ sym nodes-above
@@ -134,7 +130,7 @@ module _ (w₀ : List Float) (p n nl root : ℕ) (hn : n ≡ 2 ^ p) (leaves : 2 
         two a b c e f = omega arith
 
     place : at ≡ length kept + (n + (c + c))
-    place = s.3 ∙ ap length (layers_last k js) ∙ length-append kept (flat own) ∙ ap (λ (x : ℕ). length kept + x) own-long
+    place = s.from ∙ ap length (layers_last k js) ∙ length-append kept (flat own) ∙ ap (λ (x : ℕ). length kept + x) own-long
 
     low : at - (n + c + c) ≡ length kept
     low = omega (arith, place)
@@ -146,7 +142,7 @@ module _ (w₀ : List Float) (p n nl root : ℕ) (hn : n ≡ 2 ^ p) (leaves : 2 
     stands : w ≡ kept ++ (flat own ++ (rows ++ behind))
     unfolding behind
     stands =
-        s.7
+        s.written
         ∙ put-start w₀ (content w₀ p n nl root (suc k))
         ∙ ap (λ (x : List Float). x ++ behind) split
         ∙ append_assoc kept (flat own ++ rows) behind
@@ -182,10 +178,10 @@ module _ (w₀ : List Float) (p n nl root : ℕ) (hn : n ≡ 2 ^ p) (leaves : 2 
         ∙ ap (λ (x : ℕ). length kept + x) (sym (length-append (flat own) rows))
         ∙ sym (length-append kept (flat own ++ rows))
         ∙ ap length (sym split)
-        ∙ s.8
+        ∙ s.sized
 
     half : (m + 1) / 2 ≡ 2 ^ k + 1
-    half = omega (arith, s.4, pow_more k)
+    half = omega (arith, s.width, pow_more k)
 
     pub descending_fits :
         (n + c + c ≤ at)
@@ -202,8 +198,8 @@ module _ (w₀ : List Float) (p n nl root : ℕ) (hn : n ≡ 2 ^ p) (leaves : 2 
         ∙ own_shape.2
         ∙ sym (flat_shape (suc q) (2 ^ k + 1) n own own_shape)
         ∙ own-long in
-        let b : 2 ^ suc k ≤ 2 ^ p = pow_mono s.0 in
-        (omega (arith, place), omega (arith, place), omega (arith, half, s.4, s.5, pow_more k), omega (arith, place, total, likes-flat, own-long, fits, s.1), omega (arith, half, b, hn, pow_more k))
+        let b : 2 ^ suc k ≤ 2 ^ p = pow_mono more in
+        (omega (arith, place), omega (arith, place), omega (arith, half, s.width, s.narrow, pow_more k), omega (arith, place, total, likes-flat, own-long, fits, same), omega (arith, half, b, hn, pow_more k))
 
     pub descending_turn :
         (v : List Float) → v ≡ put w (at - (n + c + c)) (flat (likelihoods_below (nodes f c (drop at w)) (nodes ((m + 1) / 2) (2 * c) (drop (at - (n + c + c)) w)))) →
@@ -223,32 +219,31 @@ module _ (w₀ : List Float) (p n nl root : ℕ) (hn : n ≡ 2 ^ p) (leaves : 2 
         ∙ ap (λ (z : ℕ). length kept + z) (length-append x rows ∙ ap (λ (z : ℕ). z + length rows) lx ∙ sym (length-append (flat own) rows))
         ∙ sym (length-append kept (flat own ++ rows))
         ∙ ap length (sym split)
-        ∙ s.8 in
+        ∙ s.sized in
         let ve : v ≡ put w₀ 0 (content w₀ p n nl root k) =
         e
         ∙ ap (λ (z : ℕ). put w z (flat (likelihoods_below (nodes f c (drop at w)) (nodes ((m + 1) / 2) (2 * c) (drop z w))))) low
         ∙ ap (λ (z : ℕ). put w (length kept) (flat (likelihoods_below (nodes f c (drop at w)) (nodes z (2 * c) (drop (length kept) w))))) half
         ∙ ap (λ (z : List (List Float)). put w (length kept) (flat (likelihoods_below (nodes f c (drop at w)) z))) own_read
         ∙ ap (λ (z : List (List Float)). put w (length kept) (flat (likelihoods_below z own))) likes-read
-        ∙ ap (λ (z : List Float). put z (length kept) x) (s.7 ∙ ap (put w₀ 0) split)
+        ∙ ap (λ (z : List Float). put z (length kept) x) (s.written ∙ ap (put w₀ 0) split)
         ∙ ap (λ (z : ℕ). put (put w₀ 0 (kept ++ (flat own ++ rows))) z x) (sym (zero-add (length kept)))
-        ∙ put_inner nan w₀ 0 (kept ++ (flat own ++ rows)) (length kept) x (omega (arith, ap length split, s.8, fits)) (omega (arith, length-append kept (flat own ++ rows), length-append (flat own) rows, lx))
+        ∙ put_inner nan w₀ 0 (kept ++ (flat own ++ rows)) (length kept) x (omega (arith, ap length split, s.sized, fits)) (omega (arith, length-append kept (flat own ++ rows), length-append (flat own) rows, lx))
         ∙ ap (put w₀ 0) (replaced kept (flat own) x rows lx)
-        ∙ ap (put w₀ 0) (sym new) in (
-          omega (arith, s.0),
-          ap length ve ∙ length-put w₀ 0 (content w₀ p n nl root k) (omega (arith, ln, fits)),
-          double (2 ^ q) c (2 ^ suc q) nodes-above (pow_more q) ∙ ap (λ (z : ℕ). 2 ^ z) (sym less),
-          low,
-          half,
-          omega arith,
-          subst (λ (z : ℕ). AllLong ((m + 1) / 2) (tree_layers z l own).likelihoods) (sym less) (subst (λ (z : ℕ). AllLong z (likelihoods_below likes own)) (sym half) (likelihoods_long q (2 ^ k + 1) n l own own_shape)),
-          ve,
-          ln,
-        )
+        ∙ ap (put w₀ 0) (sym new) in
+        record {
+          nodes_left = double (2 ^ q) c (2 ^ suc q) nodes-above (pow_more q) ∙ ap (λ (z : ℕ). 2 ^ z) (sym less);
+          from = low;
+          width = half;
+          narrow = omega arith;
+          long = subst (λ (z : ℕ). AllLong ((m + 1) / 2) (tree_layers z l own).likelihoods) (sym less) (subst (λ (z : ℕ). AllLong z (likelihoods_below likes own)) (sym half) (likelihoods_long q (2 ^ k + 1) n l own own_shape));
+          written = ve;
+          sized = ln;
+        }
       where
         double : (a c b : ℕ) → c ≡ a → b ≡ 2 * a → c + c ≡ b
         double a c b e f = omega arith
 
   pub descending_end : (w : List Float) (at c m f : ℕ) → Descending w₀ p n nl root w at c m f 0 → w ≡ put w₀ 0 (likelihood_rows p (region w₀ root nl) (nodes 2 n w₀))
   unfolding layers_from layer_at
-  descending_end w at c m f s = let z : p - 0 ≡ p = omega arith in s.7 ∙ ap (λ (x : ℕ). put w₀ 0 (likelihood_rows x l js)) z
+  descending_end w at c m f s = let z : p - 0 ≡ p = omega arith in s.written ∙ ap (λ (x : ℕ). put w₀ 0 (likelihood_rows x l js)) z

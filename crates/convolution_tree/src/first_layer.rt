@@ -36,8 +36,7 @@ fn normalize_messages(w: &mut [f32], n: usize)
     requires { 2 * n ≤ length w.old }
     ensures { w.new ≡ put w.old 0 (flat (map normalize (nodes 2 n w.old))) }
 {
-    let mut i = 0;
-    while i < n {
+    for i in 0..n {
         let a = 2 * i;
         let m = VariableMessage {
             absent: w[a],
@@ -46,7 +45,6 @@ fn normalize_messages(w: &mut [f32], n: usize)
         let r = m.normalize();
         w[a] = r.absent;
         w[a + 1] = r.present;
-        i += 1;
     }
 }
 
@@ -55,12 +53,10 @@ fn pad(w: &mut [f32], at: usize, k: usize)
     requires { at + 2 * k ≤ length w.old }
     ensures { w.new ≡ put w.old at (padding k) }
 {
-    let mut i = 0;
-    while i < k {
+    for i in 0..k {
         let a = at + 2 * i;
         w[a] = DUMMY[0];
         w[a + 1] = DUMMY[1];
-        i += 1;
     }
 }
 

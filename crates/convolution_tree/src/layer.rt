@@ -45,12 +45,10 @@ pub(crate) fn count_layer(
 {
     let mut a = at;
     let mut o = out;
-    let mut i = 0;
-    while i < count {
+    for _ in 0..count {
         put_count_node(w, t, a, m, o);
         a += m + m;
         o += m + m - 1;
-        i += 1;
     }
 }
 
@@ -92,11 +90,9 @@ pub(crate) fn likelihoods_below(
 {
     let mut l = above;
     let mut a = at;
-    let mut i = 0;
-    while i < count {
+    for _ in 0..count {
         put_likelihoods(w, t, l, n, a, m);
         l += n;
         a += m + m;
-        i += 1;
     }
 }

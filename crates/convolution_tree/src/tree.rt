@@ -10,7 +10,6 @@ ghost use Rattle.convolution_tree.specs.Nodes.{nodes};
 ghost use Rattle.convolution_tree.specs.Layers.{layers_from, likelihood_rows};
 ghost use Rattle.convolution_tree.specs.Tree.{scratch_len, seeded, propagated};
 
-use crate::convolution::{clear, hand_over};
 use crate::first_layer::{build_first_layer, size_for};
 use crate::layer::{count_layer, likelihoods_below};
 
@@ -25,15 +24,13 @@ fn build_remaining_layers(w: &mut [f32], t: &mut [f32], layers: usize, leaves: u
     let mut at = 0;
     let mut c = leaves;
     let mut m = 2;
-    let mut i = 0;
-    while i < layers {
+    for _ in 0..layers {
         let above = at + leaves + c;
         let wide = m + m - 1;
         c = c / 2;
         count_layer(w, &mut t[..wide], at, c, m, above);
         at = above;
         m = wide;
-        i += 1;
     }
     at
 }
@@ -54,8 +51,7 @@ fn propagate_backward(
     let mut c = 1;
     let mut m = leaves + 1;
     let mut f = n;
-    let mut i = layers;
-    while 0 < i {
+    for _ in 0..layers {
         let low = at - (leaves + c + c);
         let half = (m + 1) / 2;
         let two = half + half;
@@ -64,32 +60,17 @@ fn propagate_backward(
         c = c + c;
         m = half;
         f = half;
-        i -= 1;
-    }
-}
-
-// The n floats at `at` are copied to the start, below them.
-fn copy_down(w: &mut [f32], at: usize, n: usize)
-    requires { (n ≤ at) × (at + n ≤ length w.old) }
-    ensures { w.new ≡ put w.old 0 (region w.old at n) }
-{
-    let mut k = 0;
-    while k < n {
-        w[k] = w[at + k];
-        k += 1;
     }
 }
 
 // The n floats at the start, the factor's message, and n entries of the root's distribution, at `at`, change places: the one is the root's
 // likelihood, the other is what the factor is sent.
-fn exchange(w: &mut [f32], t: &mut [f32], at: usize, n: usize)
-    requires { (t.old ≡ replicate 130 zeroᶠ) × (n ≤ 130) × (n ≤ at) × (at + n ≤ length w.old) }
-    ensures { (w.new ≡ put (put w.old 0 (region w.old at n)) at (region w.old 0 n)) × (t.new ≡ replicate 130 zeroᶠ) }
+fn exchange(w: &mut [f32], at: usize, n: usize)
+    requires { (n ≤ at) × (at + n ≤ length w.old) }
+    ensures { w.new ≡ put (put w.old 0 (region w.old at n)) at (region w.old 0 n) }
 {
-    let e = at + n;
-    hand_over(&mut t[..n], &mut w[..n]);
-    copy_down(w, at, n);
-    hand_over(&mut w[at..e], &mut t[..n]);
+    let (front, back) = w.split_at_mut(at);
+    front[..n].swap_with_slice(&mut back[..n]);
 }
 
 // What the tree is built from: the factor's message, normalised, and the leaves behind it.
@@ -109,7 +90,7 @@ fn propagate(w: &mut [f32], t: &mut [f32], n: usize, layers: usize, leaves: usiz
 {
     let b = n + 1;
     let root = build_remaining_layers(&mut w[b..], t, layers, leaves);
-    exchange(w, t, b + root, b);
+    exchange(w, b + root, b);
     propagate_backward(&mut w[b..], t, layers, leaves, root, b);
 }
 
@@ -119,7 +100,7 @@ fn finish(w: &mut [f32], e: usize, end: usize)
     ensures { w.new ≡ put w.old 0 (avoid_underflow_all (take e w.old) ++ replicate (end - e) zeroᶠ) }
 {
     array_utils::avoid_underflow(&mut w[..e]);
-    clear(&mut w[e..end]);
+    w[e..end].fill(0.0);
 }
 
 // How many floats a tree over n grades needs behind its messages.

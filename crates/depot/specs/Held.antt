@@ -1,5 +1,5 @@
 -- What is held of the shift after a read more, and what is to be printed.
-use Rattle.std.specs.Prelude.{ℕ, ◌+◌, ◌≤◌, ◌<◌, ◌≡◌, refl, Bool, Option, true, false, ◌&&◌, List, [], ◌++◌, length, take, drop}
+use Rattle.std.specs.Prelude.{ℕ, ◌+◌, ◌≤◌, ◌<◌, ◌≡◌, refl, Bool, Option, Result, true, false, ◌&&◌, List, [], ◌++◌, length, take, drop}
 use Rattle.std.proofs.Common.{arith, sym, ap, subst, ◌∙◌, true≢false, append-nil}
 use Rattle.definition.specs.Call.{overwrite}
 use Rattle.definition.specs.Tonnage.{tonnage, weighing_lines}
@@ -7,21 +7,20 @@ use Rattle.list_laws.specs.Put.{put}
 use Rattle.theorems.specs.Facts.{ended_bales}
 use Rattle.listing.specs.Writing.{Written, written_is}
 use Rattle.listing.specs.Front.{front_fits}
-use Rattle.streams.specs.declared.calls.Answer.{Answer}
 use Rattle.streams.specs.Calls.{AnsweredWithin, counted, ReadMoves}
 use Rattle.streams.specs.Reads.{read_call}
 use Rattle.streams.specs.Input.{Came, never, is_reading, phase_after, after_read, to_read}
 use Rattle.streams.specs.Input.{bytes_after, length-after, phase_is, few_while_reading, all_came, came-more, less_to-read}
+use Rattle.checks.specs.declared.refusal.Refusal.{Refusal}
 use Rattle.tonnage.specs.Standings.{HoldsTally, weighing_with}
 use Rattle.tonnage.specs.Weighed.{Weighs}
 use Rattle.tonnage.specs.Pieces.{tally_settled}
-use Rattle.tonnage.specs.declared.tally.Outcome.{Outcome}
 use Rattle.depot.specs.declared.depot.Depot.{Depot}
 use Rattle.depot.specs.Depots.{HoldsDepot, SomeGoing, Going, ReadBy, waits, is_going, is_settled, SomeDepot, Follows, text_of}
 
 -- ---- a read more, of which n bytes were weighed
 
-module _ (csv : List ℕ) (x : Came) (got : Answer) (buffer : List ℕ) (n : ℕ) (is : n ≡ counted got (length buffer)) (within : n ≤ length buffer) where
+module _ (csv : List ℕ) (x : Came) (got : Option ℕ) (buffer : List ℕ) (n : ℕ) (is : n ≡ counted got (length buffer)) (within : n ≤ length buffer) where
   abbrev next : Came
   next = after_read never (read_call got buffer) x.bytes
 
@@ -56,7 +55,7 @@ module _ (unread left : Option (List ℕ)) (csv : List ℕ) (d : Depot) (ms ps s
 
   -- a read more, which answered `got`
   module _
-      (got : Answer) (buffer : List ℕ) (u : Depot) (ns qs us : List ℕ)
+      (got : Option ℕ) (buffer : List ℕ) (u : Depot) (ns qs us : List ℕ)
       (h : HoldsDepot csv (after_read never (read_call got buffer) g.came.bytes) u ns qs us) where
     pub going_more :
         (rest : Option (List ℕ)) → length buffer ≡ 65536 → AnsweredWithin 65536 got → ReadMoves left rest got buffer → Going unread rest csv u ns qs us
@@ -92,7 +91,7 @@ Put d sums l m k =
     (csv : List ℕ) (x : Came) (ms ps xs : List ℕ) → HoldsDepot csv x d ms ps sums → Follows d xs →
     (m ≡ overwrite (text_of csv x d xs) l) × (k ≡ length (text_of csv x d xs))
 
-module _ (d : Depot) (sums : List ℕ) (o : Outcome) (settled : is_settled d ≡ true) where
+module _ (d : Depot) (sums : List ℕ) (o : Result ℕ Refusal) (settled : is_settled d ≡ true) where
   -- by what the tally's outcome is, whatever shift it holds
   module _ (is : (csv shift ts : List ℕ) → HoldsTally csv (ended_bales shift) d.weighing.tally ts → weighing_with o ts ≡ tonnage csv shift) where
     outcome_text :
@@ -107,13 +106,10 @@ module _ (d : Depot) (sums : List ℕ) (o : Outcome) (settled : is_settled d ≡
         go false e = tally_settled csv x.bytes xs d.weighing.tally sums e h.weighs.tally
 
     -- the outcome is known to be p, whose lines were written
-    pub outcome_put : (p : Outcome) → o ≡ p → (l m : List ℕ) (k : ℕ) → Written l 0 (weighing_lines (weighing_with p sums)) m k → Put d sums l m k
+    pub outcome_put : (p : Result ℕ Refusal) → o ≡ p → (l m : List ℕ) (k : ℕ) → Written l 0 (weighing_lines (weighing_with p sums)) m k → Put d sums l m k
     outcome_put p e l m k w csv x ms ps xs h ended =
-        let t = ap (λ (q : Outcome). weighing_lines (weighing_with q sums)) (sym e) ∙ outcome_text csv x ms ps xs h ended in
+        let t = ap (λ (q : Result ℕ Refusal). weighing_lines (weighing_with q sums)) (sym e) ∙ outcome_text csv x ms ps xs h ended in
         front-written (text_of csv x d xs) l m k (written_is t w)
-
-pub nothing_put : (d : Depot) (sums l : List ℕ) → is_settled d ≡ false → Put d sums l l 0
-nothing_put d sums l e csv x ms ps xs h ended = rw e (refl, refl)
 
 -- so many bytes fit, whatever was held
 pub put-fits : (d : Depot) (sums l m : List ℕ) (k : ℕ) → SomeDepot d sums → Put d sums l m k → k ≤ length m

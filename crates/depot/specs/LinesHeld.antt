@@ -1,7 +1,6 @@
 -- What is held of the lines after a read more.
 use Rattle.std.specs.Prelude.{ℕ, false, Option, ◌+◌, ◌≤◌, ◌<◌, ◌≡◌, refl, true, List, ◌++◌, leb, length, take, drop}
 use Rattle.std.proofs.Common.{arith, sym, ap, ◌∙◌, length-append, length-take, take-append-drop, take-add, take_at, take-take, leb-false}
-use Rattle.streams.specs.declared.calls.Answer.{Answer}
 use Rattle.streams.specs.Calls.{AnsweredWithin, counted, ReadMoves}
 use Rattle.streams.specs.Reads.{read_call, given}
 use Rattle.streams.specs.Input.{Came, is_reading, phase_after, after_read, length-after, phase_is, to_read, more_wanted, all_came, came-more, less_to-read}
@@ -11,7 +10,7 @@ use Rattle.depot.specs.Lines.{CountsLines, Going, LinesReadBy}
 
 -- ---- a read more, of which n bytes were counted
 
-module _ (bs : List ℕ) (got : Answer) (buffer : List ℕ) (n : ℕ) (is : n ≡ counted got (length buffer)) (within : n ≤ length buffer) where
+module _ (bs : List ℕ) (got : Option ℕ) (buffer : List ℕ) (n : ℕ) (is : n ≡ counted got (length buffer)) (within : n ≤ length buffer) where
   abbrev came : Came
   came = after_read enough (read_call got buffer) bs
 
@@ -35,7 +34,7 @@ module _ (unread left : Option (List ℕ)) (c : Csv) (text : List ℕ) (g : Goin
   going_few = omega (arith, g.holds.counts.counted, leb-false 100011 (length g.came.bytes) (more_wanted enough unread left g.came g.by reading refl))
 
   -- a read more, which answered `got`
-  module _ (got : Answer) (buffer : List ℕ) (u : Csv) (h : CountsLines (after_read enough (read_call got buffer) g.came.bytes) u) where
+  module _ (got : Option ℕ) (buffer : List ℕ) (u : Csv) (h : CountsLines (after_read enough (read_call got buffer) g.came.bytes) u) where
     abbrev new : List ℕ
     new = given (read_call got buffer)
 

@@ -5,7 +5,7 @@ ghost use Rattle.streams.specs.Input.{is_reading, after_read, came_by};
 ghost use Rattle.depot.specs.Program.{enough};
 ghost use Rattle.depot.specs.Lines.{CountsLines, HoldsLines};
 
-use streams::{Answer, Phase, is_reading, phase_after};
+use streams::{Phase, is_reading, phase_after};
 
 // With so many bytes no further one counts: 10,000 good lines have at most 100,000, and 11 more are a line that is too long.
 const ENOUGH: usize = 100011;
@@ -36,7 +36,7 @@ pub fn is_going(csv: Csv) -> bool
 }
 
 // What a `read` gave that answered `got` and left this in its buffer, behind so many bytes.
-pub fn take_read(len: usize, got: Answer, buffer: &[u8]) -> Csv
+pub fn take_read(len: usize, got: Option<usize>, buffer: &[u8]) -> Csv
     requires { (len ≤ 100010) × (length buffer.now ≤ 65536) }
     ensures { (bs : List ℕ) → length bs ≡ len → CountsLines (after_read enough (read_call got buffer.now) bs) result }
 {

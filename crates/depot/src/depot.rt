@@ -5,8 +5,8 @@ ghost use Rattle.streams.specs.Reads.{read_call};
 ghost use Rattle.streams.specs.Input.{Came, never, after_read, came_by};
 ghost use Rattle.depot.specs.Depots.{HoldsDepot, SomeDepot, SomeGoing, is_going, is_settled, Follows, text_of};
 
-use streams::{Answer, Phase, is_reading, phase_after};
-use tonnage::{Outcome, Weighing};
+use streams::{Phase, is_reading, phase_after};
+use tonnage::Weighing;
 
 #[derive(Clone, Copy)]
 pub struct Depot {
@@ -55,19 +55,13 @@ pub fn is_settled(depot: Depot) -> bool
     if !tonnage::is_waiting(tally) {
         return true;
     }
-    let phase = depot.phase;
-    match phase {
-        Phase::Whole => true,
-        Phase::Reading => false,
-        Phase::TooLong => false,
-        Phase::Unreadable => false,
-    }
+    matches!(depot.phase, Phase::Whole)
 }
 
 // What a `read` gave that answered `got` and left this in its buffer.
 pub fn take_read(
     depot: Depot,
-    got: Answer,
+    got: Option<usize>,
     buffer: &[u8],
     csv: &[u8],
     markers: &mut [u32],
@@ -113,7 +107,7 @@ pub fn put_outcome(depot: Depot, sums: &[u64], out: &mut [u8]) -> usize
     let weighing = depot.weighing;
     let tally = weighing.tally;
     match tonnage::outcome_of(tally) {
-        Outcome::Weighed(_) => listing::put_totals(out, sums),
-        Outcome::Refused(number, line) => listing::put_refusal(out, 0, number, line as u64),
+        Ok(_) => listing::put_totals(out, sums),
+        Err(refusal) => listing::put_refusal(out, 0, refusal.check.number(), refusal.place.into()),
     }
 }

@@ -4,7 +4,6 @@ ghost use Rattle.definition.specs.FactorGraph.{Bale};
 ghost use Rattle.definition.specs.Lists.{range};
 ghost use Rattle.definition.specs.Call.{overwrite};
 ghost use Rattle.definition.specs.Trials.{draw_each, draw_reads, made_up};
-ghost use Rattle.report_laws.specs.Counts.{one_if};
 ghost use Rattle.draws.specs.Model.{drawn_of, draw_also, read_drawn, setting_in, DrewBale};
 ghost use Rattle.draws.specs.Present.{Known, NoneCounted, PresentCounted, count_limits, limits_at, GraphOf};
 
@@ -24,20 +23,12 @@ fn draw_grades(prior: u32, state: u32, grades: usize, present: &mut [bool]) -> u
     ensures { (result ≡ (draw_each (replicate grades prior) state).state) × (present.new ≡ overwrite (draw_each (replicate grades prior) state).successes present.old) }
 {
     let mut at = state;
-    let mut g: usize = 0;
-    while g < grades {
+    for g in 0..grades {
         let d = draw(prior, at);
         present[g] = d.success;
         at = d.state;
-        g += 1;
     }
     at
-}
-
-fn one_if(present: bool) -> u32
-    ensures { result ≡ one_if present }
-{
-    if present { 1 } else { 0 }
 }
 
 // How many present grades each marker has. All of them draw against one limit, so that only their number counts.
@@ -45,13 +36,10 @@ fn count_present(pairs: &[u32], present: &[bool], counts: &mut [u32])
     requires { Known (length present.now) (length counts.old) pairs.now × NoneCounted counts.old × (length pairs.now / 2 ≤ 8192) }
     ensures { PresentCounted present.now pairs.now counts.new }
 {
-    let n = pairs.len() / 2;
-    let mut i: usize = 0;
-    while i < n {
+    for i in 0..pairs.len() / 2 {
         let g = pairs[2 * i] as usize;
         let m = pairs[2 * i + 1] as usize;
-        counts[m] = counts[m] + one_if(present[g]);
-        i += 1;
+        counts[m] += u32::from(present[g]);
     }
 }
 
@@ -74,10 +62,8 @@ fn draw_marker(setting: TrialSetting, state: u32, count: u32) -> Drawn
     ensures { drawn_of result ≡ read_drawn (count_limits (setting_in setting) count) state }
 {
     let mut drawn = draw(setting.beta, state);
-    let mut k: u32 = 0;
-    while k < count {
+    for _ in 0..count {
         drawn = draw_also(setting.alpha, drawn);
-        k += 1;
     }
     drawn
 }
@@ -94,12 +80,10 @@ fn draw_reads(
     ensures { (result ≡ (draw_reads (map (limits_at (setting_in setting) counts.now) (range 0 markers)) state).state) × (reads.new ≡ overwrite (draw_reads (map (limits_at (setting_in setting) counts.now) (range 0 markers)) state).successes reads.old) }
 {
     let mut at = state;
-    let mut m: usize = 0;
-    while m < markers {
+    for m in 0..markers {
         let d = draw_marker(setting, at, counts[m]);
         reads[m] = d.success;
         at = d.state;
-        m += 1;
     }
     at
 }

@@ -245,9 +245,6 @@ module _ (w : List ℕ) (G M : ℕ) (pairs : List ℕ) (p : Buildable w G M pair
                   let g = length-append S code in
                   omega (arith, a, c, f, g, kinds-length, labels_length, F-length, S-length, code-length)
 
-              pub build-same : length w5 ≡ length w
-              build-same = ap length w5-is ∙ length-put w 0 (n ∷ e ∷ kind_words G M T ++ (label_words G M counts ++ (F ++ (S ++ code)))) (omega (arith, record_length, build-size))
-
               -- the record of the built graph, at the front of the words
               pub build-words : (b : Bale) → b.grades ≡ G → length b.markers ≡ M → b.pairs ≡ ps → w5 ≡ put w 0 (built_words b)
               build-words b ea em ep = w5-is ∙ ap (put w 0) (words_are ∙ plan_words counts grades G M ps all-given b ea em ep)

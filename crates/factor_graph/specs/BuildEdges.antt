@@ -3,7 +3,7 @@ use Rattle.std.specs.Prelude.{◌≡◌, refl, Bool, true, false, cond, get_or, 
 use Rattle.std.proofs.Math.Path.{sym, ap, subst}
 use Rattle.std.proofs.Common.{◌∙◌, length-set, length-append, drop-cons, get_or-take, length-take-le, le-leb}
 use mathlib.Core.List.{List, [], ◌∷◌, ◌++◌, map}
-use Prim.Native.Nat.{ℕ, zero, suc, ◌+◌, ◌-◌, ◌*◌, ◌^◌, ◌≤◌, ◌<◌}
+use Prim.Native.Nat.{ℕ, zero, suc, ◌+◌, ◌-◌, ◌*◌, ◌≤◌, ◌<◌}
 use native.Mathlib.Omega.{arith}
 use Rattle.std.proofs.Math.ListN.{length}
 use Rattle.std.proofs.lemmas.List.{length-map}
@@ -106,13 +106,6 @@ unfolding push_all
 pushed_degrees k [] s = refl
 pushed_degrees k (e ∷ es) s = pushed_degrees (k + 1) es (push_edge k e s) ∙ push_degrees k e s
 
-pub pushed-words : (k : ℕ) (es : List (Edge ℕ)) (s : Writing) → 5 * (k + length es) ≤ length s.words → length (push_all k es s).words ≡ length s.words
-unfolding push_all
-pushed-words k [] s h = refl
-pushed-words k (e ∷ es) s h =
-    let p = push_words k e s (omega arith) in
-    pushed-words (k + 1) es (push_edge k e s) (omega arith) ∙ p
-
 -- five words stored
 pub five : (w : List ℕ) (at a b c d e : ℕ) → at + 5 ≤ length w → set (set (set (set (set w at a) (at + 1) b) (at + 2) c) (at + 3) d) (at + 4) e ≡ put w at (a ∷ b ∷ c ∷ d ∷ e ∷ [])
 five w at a b c d e h =
@@ -175,16 +168,7 @@ pub push_five : (w d : List ℕ) (k a b l : ℕ) → 5 * k + 5 ≤ length w →
 unfolding push_edge
 push_five w d k a b l h = ap (λ (x : List ℕ). writing x (one_more (one_more d a) b)) (five w (5 * k) a b (get_or d a 0) (get_or (one_more d a) b 0) l h)
 
-pub small_first : (k : ℕ) (e : Edge ℕ) (w d : List ℕ) → Writable k (e ∷ []) (writing w d) → get_or d e.node1 0 + 1 < 2 ^ 32
-small_first k e w d h = omega (arith, h.small e.node1)
-
-pub small_second : (k : ℕ) (e : Edge ℕ) (w d : List ℕ) → Writable k (e ∷ []) (writing w d) → get_or (one_more d e.node1) e.node2 0 + 1 < 2 ^ 32
-small_second k e w d h = countable_step 1 d e.node1 (λ v. omega (arith, h.small v)) e.node2
-
 pub record TreePushed (t k : ℕ) (grades w₀ d₀ w d : List ℕ) (i : ℕ) : Type 0 where
-  pub bound : i ≤ length grades
-  pub same-words : length w ≡ length w₀
-  pub same_degrees : length d ≡ length d₀
   pub rest : push_all (k + i) (map (tree_edge t) (drop i grades)) (writing w d) ≡ push_all k (map (tree_edge t) grades) (writing w₀ d₀)
   pub writable : Writable (k + i) (map (tree_edge t) (drop i grades)) (writing w d)
 
@@ -198,19 +182,12 @@ module _ (t k : ℕ) (grades w₀ d₀ w d : List ℕ) (i : ℕ) (h : i < length
   writable_now : Writable (k + i) (next ∷ map (tree_edge t) (drop (i + 1) grades)) (writing w d)
   writable_now = subst (λ (es : List (Edge ℕ)). Writable (k + i) es (writing w d)) split p.writable
 
-  pub tree_head : Writable (k + i) (next ∷ []) (writing w d)
-  tree_head = writable_head (k + i) next (map (tree_edge t) (drop (i + 1) grades)) (writing w d) writable_now
-
   pub tree-turn : (w' d' : List ℕ) → writing w' d' ≡ push_edge (k + i) next (writing w d) → TreePushed t k grades w₀ d₀ w' d' (i + 1)
   unfolding push_all
   tree-turn w' d' e =
       let a : k + i + 1 ≡ k + (i + 1) = omega arith in
       let es = map (tree_edge t) (drop (i + 1) grades) in
-      let r = writable_now.room in
       record {
-        bound = omega arith;
-        same-words = ap (λ (s : Writing). length s.words) e ∙ push_words (k + i) next (writing w d) (omega arith) ∙ p.same-words;
-        same_degrees = ap (λ (s : Writing). length s.degrees) e ∙ push_degrees (k + i) next (writing w d) ∙ p.same_degrees;
         rest =
             ap (push_all (k + (i + 1)) es) e
             ∙ ap (λ (n : ℕ). push_all n es (push_edge (k + i) next (writing w d))) (sym a)
@@ -218,11 +195,6 @@ module _ (t k : ℕ) (grades w₀ d₀ w d : List ℕ) (i : ℕ) (h : i < length
             ∙ p.rest;
         writable = subst (λ (n : ℕ). Writable n es (writing w' d')) a (subst (Writable (k + i + 1) es) (sym e) (writable_tail (k + i) next es (writing w d) writable_now));
       }
-
-pub tree-start : (t k : ℕ) (grades w₀ d₀ : List ℕ) → Writable k (map (tree_edge t) grades) (writing w₀ d₀) → TreePushed t k grades w₀ d₀ w₀ d₀ 0
-tree-start t k grades w₀ d₀ w =
-    let e : k + 0 ≡ k = omega arith in
-    record { bound = omega arith; same-words = refl; same_degrees = refl; rest = rw e; writable = rw e w }
 
 pub tree_done : (t k : ℕ) (grades w₀ d₀ w d : List ℕ) (i : ℕ) → length grades ≤ i → TreePushed t k grades w₀ d₀ w d i → writing w d ≡ push_all k (map (tree_edge t) grades) (writing w₀ d₀)
 unfolding push_all
@@ -315,12 +287,6 @@ module _ (f i t k : ℕ) (gs : List ℕ) (s : Writing) (w : Writable k (marker_e
       ∙ sym (push_append (k + 1) leaves (last ∷ []) (push_edge k top s))
       ∙ ap (λ (es : List (Edge ℕ)). push_all k es s) (sym (many h))
 
-pub writing-words : (w d w₀ d₀ : List ℕ) (k : ℕ) (es : List (Edge ℕ)) → Writable k es (writing w₀ d₀) → writing w d ≡ push_all k es (writing w₀ d₀) → length w ≡ length w₀
-writing-words w d w₀ d₀ k es h e = ap (λ (s : Writing). length s.words) e ∙ pushed-words k es (writing w₀ d₀) h.room
-
-pub writing_degrees : (w d w₀ d₀ : List ℕ) (k : ℕ) (es : List (Edge ℕ)) → writing w d ≡ push_all k es (writing w₀ d₀) → length d ≡ length d₀
-writing_degrees w d w₀ d₀ k es e = ap (λ (s : Writing). length s.degrees) e ∙ pushed_degrees k es (writing w₀ d₀)
-
 -- ---- marker by marker
 
 pub part_length : (s n : ℕ) → s + n - s ≡ n
@@ -330,9 +296,6 @@ abbrev pub trees_of : ℕ → ℕ
 trees_of n = cond (leb 2 n) 1 0
 
 pub record MarkersPushed (f M : ℕ) (counts grades w₀ d₀ w d : List ℕ) (m t s k : ℕ) : Type 0 where
-  pub bound : m ≤ M
-  pub same-words : length w ≡ length w₀
-  pub same_degrees : length d ≡ length d₀
   pub starts : s + sum_of (drop m (take M counts)) ≤ length grades
   pub trees : t + (M - m) ≤ f + 3 * M
   pub rest : push_all k (edges_from f (f + M) counts grades (M - m) m t s) (writing w d) ≡ push_all 0 (edges_from f (f + M) counts grades M 0 (f + 2 * M) 0) (writing w₀ d₀)
@@ -381,9 +344,6 @@ module _ (f M : ℕ) (counts grades w₀ d₀ w d : List ℕ) (m t s k : ℕ) (f
   pub marker_lent : Writable k lent (writing w d)
   marker_lent = subst (λ (j : ℕ). Writable k (marker_edges_by (f + m) (f + M + m) t (region grades s j)) (writing w d)) (sym (part_length s n)) marker_writable
 
-  pub marker_k : k + (n + 1 + trees_of n) ≤ length w
-  marker_k = omega (arith, marker_writable.room, own-length)
-
   few : trees_of n ≤ 1
   few = go (leb 2 n)
     where
@@ -391,15 +351,9 @@ module _ (f M : ℕ) (counts grades w₀ d₀ w d : List ℕ) (m t s k : ℕ) (f
       go true = omega arith
       go false = omega arith
 
-  pub marker_tree : t + trees_of n ≤ f + 3 * M
-  marker_tree = omega (arith, p.trees, few)
-
   marker_next : (w' d' : List ℕ) → writing w' d' ≡ push_all k own (writing w d) → MarkersPushed f M counts grades w₀ d₀ w' d' (m + 1) (t + trees_of n) (s + n) (k + (n + 1 + trees_of n))
   marker_next w' d' e =
       record {
-        bound = omega arith;
-        same-words = writing-words w' d' w d k own marker_writable e ∙ p.same-words;
-        same_degrees = writing_degrees w' d' w d k own e ∙ p.same_degrees;
         starts = omega (arith, p.starts, sum_split);
         trees = omega (arith, p.trees, few);
         rest =
@@ -424,17 +378,3 @@ unfolding edges_from push_all
 markers_done f M counts grades w₀ d₀ w d m t s k h p =
     let a : M - m ≡ 0 = omega arith in
     ap (λ (j : ℕ). push_all k (edges_from f (f + M) counts grades j m t s) (writing w d)) (sym a) ∙ p.rest
-
-pub markers_start : (f M : ℕ) (counts grades w₀ d₀ : List ℕ) → Writable 0 (edges_from f (f + M) counts grades M 0 (f + 2 * M) 0) (writing w₀ d₀) → sum_of (take M counts) ≤ length grades
-    → MarkersPushed f M counts grades w₀ d₀ w₀ d₀ 0 (f + 2 * M) 0 0
-markers_start f M counts grades w₀ d₀ h g =
-    let a : M - 0 ≡ M = omega arith in
-    record {
-      bound = omega arith;
-      same-words = refl;
-      same_degrees = refl;
-      starts = omega arith;
-      trees = omega arith;
-      rest = rw a;
-      writable = rw a h;
-    }

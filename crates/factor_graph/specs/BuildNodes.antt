@@ -1,46 +1,31 @@
 -- The nodes' words: the kinds and the labels of the grades, the factors, the inputs and the trees, written run by run.
-use Rattle.std.specs.Prelude.{◌≡◌, refl, Bool, true, false, cond, List, [], ◌∷◌, ◌++◌, length, get_or, drop, set, replicate, leb}
-use Rattle.std.proofs.Common.{sym, ap, ◌∙◌, append_assoc, length-set, length-append, drop-cons}
+use Rattle.std.specs.Prelude.{◌≡◌, Bool, true, false, cond, List, [], ◌++◌, length, get_or, set, replicate, leb}
+use Rattle.std.proofs.Common.{sym, ap, ◌∙◌, append_assoc, length-append}
 use Prim.Native.Nat.{ℕ, zero, suc, ◌+◌, ◌-◌, ◌≤◌, ◌<◌}
 use native.Mathlib.Omega.{arith}
 use Rattle.definition.specs.Lists.{range, cons_if}
 use Rattle.list_laws.specs.Put.{put, put-none, put_next}
 use Rattle.list_laws.specs.PutParts.{put_cons}
-use Rattle.factor_graph.specs.BuildGroup.{drop-end}
 
--- ---- a list stored element by element, from index `at` on
+-- ---- the numbers below n, stored from index `at` on: those that are left, before turn i
+abbrev pub counting : List ℕ → ℕ → ℕ → ℕ → List ℕ
+counting w at n i = put w (at + i) (range i (n - i))
 
-pub record Stored (full w₀ : List ℕ) (at : ℕ) (w : List ℕ) (i : ℕ) : Type 0 where
-  pub bound : i ≤ length full
-  pub same : length w ≡ length w₀
-  pub rest : put w (at + i) (drop i full) ≡ put w₀ at full
+pub counting-start : (w : List ℕ) (at n : ℕ) → counting w at n 0 ≡ put w at (range 0 n)
+counting-start w at n =
+    let a : at + 0 ≡ at = omega arith in
+    let b : n - 0 ≡ n = omega arith in
+    rw (a, b)
 
-pub store_start : (full w₀ : List ℕ) (at : ℕ) → Stored full w₀ at w₀ 0
-store_start full w₀ at = let a : at + 0 ≡ at = omega arith in record { bound = omega arith; same = refl; rest = rw a }
+pub counting-turn : (w : List ℕ) (at n i : ℕ) → i < n → at + n ≤ length w → counting (set w (at + i) i) at n (i + 1) ≡ counting w at n i
+counting-turn w at n i h fits =
+    let a : at + (i + 1) ≡ at + i + 1 = omega arith in
+    let b : n - i ≡ suc (n - (i + 1)) = omega arith in
+    let e : i + 1 ≡ suc i = omega arith in
+    rw (a, b) (ap (λ (j : ℕ). put (set w (at + i) i) (at + i + 1) (range j (n - (i + 1)))) e ∙ put_cons w (at + i) i (range (suc i) (n - (i + 1))) (omega arith))
 
-pub store_turn : (full w₀ : List ℕ) (at : ℕ) (w : List ℕ) (i v : ℕ) → at + length full ≤ length w₀ → i < length full → v ≡ get_or full i 0 → Stored full w₀ at w i → Stored full w₀ at (set w (at + i) v) (i + 1)
-store_turn full w₀ at w i v fits h e p =
-    let a : at + i + 1 ≡ at + (i + 1) = omega arith in
-    let b : i + 1 ≡ suc i = omega arith in
-    record {
-      bound = omega arith;
-      same = length-set w (at + i) v ∙ p.same;
-      rest =
-          ap (λ (j : ℕ). put (set w (at + i) v) j (drop (i + 1) full)) (sym a)
-          ∙ put_cons w (at + i) v (drop (i + 1) full) (omega (arith, p.same))
-          ∙ ap (λ (x : ℕ). put w (at + i) (x ∷ drop (i + 1) full)) e
-          ∙ ap (λ (j : ℕ). put w (at + i) (get_or full i 0 ∷ drop j full)) b
-          ∙ ap (put w (at + i)) (sym (drop-cons full i 0 h))
-          ∙ p.rest;
-    }
-
-pub store_done : (full w₀ : List ℕ) (at : ℕ) (w : List ℕ) (i : ℕ) → at + length full ≤ length w₀ → length full ≤ i → Stored full w₀ at w i → w ≡ put w₀ at full
-store_done full w₀ at w i fits h p = put-none w (at + i) (omega (arith, p.same, p.bound)) ∙ ap (put w (at + i)) (sym (drop-end i full h)) ∙ p.rest
-
-pub get_d_range : (i n k : ℕ) → k < n → get_or (range i n) k 0 ≡ i + k
-get_d_range i zero k h = absurd (let z : ⊥ = omega arith in z)
-get_d_range i (suc n) zero h = omega arith
-get_d_range i (suc n) (suc k) h = get_d_range (suc i) n k (omega arith) ∙ omega arith
+pub counting-done : (w : List ℕ) (at n i : ℕ) → i ≡ n → at + n ≤ length w → w ≡ counting w at n i
+counting-done w at n i e fits = let a : n - i ≡ 0 = omega arith in rw a (put-none w (at + i) (omega arith))
 
 -- ---- the markers that have a tree: of n from m on, those with 2 grades or more
 
@@ -74,31 +59,21 @@ trees-end counts M m h = let a : M - m ≡ 0 = omega arith in rw a
 
 -- and written
 pub record Labelled (counts w₀ : List ℕ) (at M : ℕ) (w : List ℕ) (m t : ℕ) : Type 0 where
-  pub bound : m ≤ M
-  pub same : length w ≡ length w₀
   pub count : t + length (trees_from counts (M - m) m) ≡ length (trees_from counts M 0)
   pub rest : put w (at + t) (trees_from counts (M - m) m) ≡ put w₀ at (trees_from counts M 0)
 
-pub label-start : (counts w₀ : List ℕ) (at M : ℕ) → Labelled counts w₀ at M w₀ 0 0
-label-start counts w₀ at M =
-    let a : M - 0 ≡ M = omega arith in
-    let b : at + 0 ≡ at = omega arith in
-    record { bound = omega arith; same = refl; count = rw a (omega arith); rest = rw (a, b) }
-
-module _ (counts w₀ : List ℕ) (at M : ℕ) (w : List ℕ) (m t : ℕ) (fits : at + length (trees_from counts M 0) ≤ length w₀) (h : m < M) (p : Labelled counts w₀ at M w m t) where
+module _ (counts w₀ : List ℕ) (at M : ℕ) (w : List ℕ) (m t : ℕ) (fits : at + length (trees_from counts M 0) ≤ length w) (h : m < M) (p : Labelled counts w₀ at M w m t) where
   tail_is : (b : Bool) → leb 2 (get_or counts m 0) ≡ b → trees_from counts (M - m) m ≡ cons_if b m (trees_from counts (M - (m + 1)) (m + 1))
   unfolding trees_from
   tail_is b e = let a : M - m ≡ suc (M - (m + 1)) = omega arith in rw (a, e)
 
   pub label_room : leb 2 (get_or counts m 0) ≡ true → at + t < length w
-  label_room e = omega (arith, p.count, p.same, ap length (tail_is true e))
+  label_room e = omega (arith, p.count, ap length (tail_is true e))
 
   pub label-turn : leb 2 (get_or counts m 0) ≡ true → Labelled counts w₀ at M (set w (at + t) m) (m + 1) (t + 1)
   label-turn e =
       let a : at + t + 1 ≡ at + (t + 1) = omega arith in
       record {
-        bound = omega arith;
-        same = length-set w (at + t) m ∙ p.same;
         count = omega (arith, p.count, ap length (tail_is true e));
         rest =
             ap (λ (j : ℕ). put (set w (at + t) m) j (trees_from counts (M - (m + 1)) (m + 1))) (sym a)
@@ -110,17 +85,15 @@ module _ (counts w₀ : List ℕ) (at M : ℕ) (w : List ℕ) (m t : ℕ) (fits 
   pub label_pass : leb 2 (get_or counts m 0) ≡ false → Labelled counts w₀ at M w (m + 1) t
   label_pass e =
       record {
-        bound = omega arith;
-        same = p.same;
         count = omega (arith, p.count, ap length (tail_is false e));
         rest = ap (put w (at + t)) (sym (tail_is false e)) ∙ p.rest;
       }
 
-pub label_done : (counts w₀ : List ℕ) (at M : ℕ) (w : List ℕ) (m t : ℕ) → at + length (trees_from counts M 0) ≤ length w₀ → M ≤ m → Labelled counts w₀ at M w m t → w ≡ put w₀ at (trees_from counts M 0)
+pub label_done : (counts w₀ : List ℕ) (at M : ℕ) (w : List ℕ) (m t : ℕ) → at + length (trees_from counts M 0) ≤ length w → M ≤ m → Labelled counts w₀ at M w m t → w ≡ put w₀ at (trees_from counts M 0)
 unfolding trees_from
 label_done counts w₀ at M w m t fits h p =
     let a : M - m ≡ 0 = omega arith in
-    put-none w (at + t) (omega (arith, p.same, p.count))
+    put-none w (at + t) (omega (arith, p.count))
     ∙ ap (λ (n : ℕ). put w (at + t) (trees_from counts n m)) (sym a)
     ∙ p.rest
 

@@ -4,6 +4,7 @@
 pub mod build;
 pub mod edges;
 mod group;
+pub mod kind;
 mod nodes;
 mod slots;
 mod write_edges;

@@ -1,32 +1,19 @@
 // The nodes' words: a kind and a label for each grade, factor, input and tree, in the order of their numbers.
-ghost use Rattle.std.specs.Prelude.{◌≡◌, ◌+◌, ◌^◌, ◌≤◌, ◌<◌, length, replicate};
+ghost use Rattle.std.specs.Prelude.{◌≡◌, ◌+◌, ◌^◌, ◌≤◌, ◌<◌, length};
 ghost use Rattle.definition.specs.Lists.{range};
 ghost use Rattle.list_laws.specs.Put.{put};
 ghost use Rattle.factor_graph.specs.BuildNodes.{trees_from, kind_words, label_words};
 
+use crate::kind::NodeKind;
 use crate::write_edges::trees_of;
-
-// n words of one value, from `at` on.
-fn fill(words: &mut [u32], at: usize, n: usize, value: u32)
-    requires { at + n ≤ length words.old }
-    ensures { words.new ≡ put words.old at (replicate n value) }
-{
-    let mut i = 0;
-    while i < n {
-        words[at + i] = value;
-        i += 1;
-    }
-}
 
 // The numbers below n, from `at` on.
 fn count_up(words: &mut [u32], at: usize, n: usize)
     requires { (at + n ≤ length words.old) × (n < 2 ^ 32) }
     ensures { words.new ≡ put words.old at (range 0 n) }
 {
-    let mut i = 0;
-    while i < n {
+    for i in 0..n {
         words[at + i] = i as u32;
-        i += 1;
     }
 }
 
@@ -36,10 +23,8 @@ pub fn count_trees(counts: &[u32], markers: usize) -> usize
     ensures { result ≡ length (trees_from counts.now markers 0) }
 {
     let mut trees = 0;
-    let mut m = 0;
-    while m < markers {
+    for m in 0..markers {
         trees += trees_of(counts[m] as usize);
-        m += 1;
     }
     trees
 }
@@ -50,13 +35,11 @@ fn tree_labels(words: &mut [u32], at: usize, counts: &[u32], markers: usize)
     ensures { words.new ≡ put words.old at (trees_from counts.now markers 0) }
 {
     let mut t = 0;
-    let mut m = 0;
-    while m < markers {
+    for m in 0..markers {
         if 2 <= counts[m] {
             words[at + t] = m as u32;
             t += 1;
         }
-        m += 1;
     }
 }
 
@@ -65,10 +48,14 @@ pub fn write_kinds(words: &mut [u32], at: usize, g: usize, m: usize, t: usize)
     requires { at + (g + (m + (m + t))) ≤ length words.old }
     ensures { words.new ≡ put words.old at (kind_words g m t) }
 {
-    fill(words, at, g, 0);
-    fill(words, at + g, m, 1);
-    fill(words, at + g + m, m, 2);
-    fill(words, at + g + m + m, t, 3);
+    let factors = at + g;
+    let inputs = factors + m;
+    let trees = inputs + m;
+    let end = trees + t;
+    words[at..factors].fill(NodeKind::Grade as u32);
+    words[factors..inputs].fill(NodeKind::Factor as u32);
+    words[inputs..trees].fill(NodeKind::Input as u32);
+    words[trees..end].fill(NodeKind::Tree as u32);
 }
 
 // Their labels: a grade's number, or that of the marker that a node belongs to.

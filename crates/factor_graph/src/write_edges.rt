@@ -25,10 +25,8 @@ fn tree_edges(edges: &mut [u32], degrees: &mut [u32], grades: &[u32], k: usize, 
     requires { Writable k (map (tree_edge tree) grades.now) (writing edges.old degrees.old) }
     ensures { writing edges.new degrees.new ≡ push_all k (map (tree_edge tree) grades.now) (writing edges.old degrees.old) }
 {
-    let mut i = 0;
-    while i < grades.len() {
-        push_edge(edges, degrees, k + i, tree, grades[i], 2);
-        i += 1;
+    for (i, grade) in grades.iter().enumerate() {
+        push_edge(edges, degrees, k + i, tree, *grade, 2);
     }
 }
 
@@ -64,7 +62,7 @@ fn marker_edges(
 pub fn trees_of(n: usize) -> usize
     ensures { result ≡ cond (leb 2 n) 1 0 }
 {
-    if 2 <= n { 1 } else { 0 }
+    usize::from(2 <= n)
 }
 
 // The edges of all markers. The counts say how many of the grades, which stand one marker after the other, each marker has. The factors begin at
@@ -83,8 +81,7 @@ pub fn write_edges(
     let mut tree = factors + 2 * markers;
     let mut k = 0;
     let mut start = 0;
-    let mut m: u32 = 0;
-    while m < markers {
+    for m in 0..markers {
         let n = counts[m as usize] as usize;
         let end = start + n;
         marker_edges(
@@ -100,6 +97,5 @@ pub fn write_edges(
         k += n + 1 + trees;
         tree += trees as u32;
         start = end;
-        m += 1;
     }
 }

@@ -9,11 +9,6 @@ module _ {A : Type 0} where
   mapped g (suc i) [] = []
   mapped g (suc i) (x ∷ xs) = g x ∷ mapped g i xs
 
-  pub mapped-length : (g : A → A) (i : ℕ) (xs : List A) → length (mapped g i xs) ≡ length xs
-  mapped-length g zero xs = refl
-  mapped-length g (suc i) [] = refl
-  mapped-length g (suc i) (x ∷ xs) = ap suc (mapped-length g i xs)
-
   -- entry i is still as it was
   pub mapped_get : (g : A → A) (i : ℕ) (xs : List A) (d : A) → get_or (mapped g i xs) i d ≡ get_or xs i d
   mapped_get g zero xs d = refl

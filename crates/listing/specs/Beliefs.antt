@@ -4,7 +4,7 @@ use Rattle.std.proofs.Common.{sym, ap, ◌∙◌, subst, add-zero, arith, length
 use Rattle.std.specs.Float.{nan}
 use Rattle.std.specs.Float.Ieee.{is_nan}
 use Rattle.graph_laws.specs.Lists.{All}
-use Rattle.graph_laws.specs.AnswerSizes.{TwoFloats}
+use Rattle.graph_laws.specs.AnswerSizes.{TwoFloats, numbers-length, floats_length}
 use Rattle.definition.specs.Answer.{Belief, belief_numbers, belief_floats}
 use Rattle.definition.specs.Listing.{belief_line, belief_lines}
 use Rattle.listing.specs.Writing.{Written, Left, left-all, left-next, left-none}
@@ -29,6 +29,9 @@ pub record BeliefsFit (bs : List Belief) (numbers : List ℕ) (floats : List Flo
 pub record SomeBeliefs (numbers : List ℕ) (floats : List Float) (at size : ℕ) : Type 0 where
   pub beliefs : List Belief
   pub good : BeliefsFit beliefs numbers floats at size
+
+pub floats_fit : {bs : List Belief} {numbers : List ℕ} {floats : List Float} {at size : ℕ} → BeliefsFit bs numbers floats at size → 2 * length numbers ≤ length floats
+floats_fit {bs} r = omega (arith, ap length r.stand.grades, ap length r.stand.values, numbers-length bs, floats_length bs r.stand.two)
 
 -- ---- the first of them
 

@@ -3,7 +3,7 @@ use Rattle.std.specs.Prelude.{◌≡◌, refl, List, [], ◌∷◌, ◌++◌, �
 use Rattle.std.proofs.Common.{sym, ap, ◌∙◌, subst, arith, length-append}
 use Rattle.std.specs.Float.{nan}
 use Rattle.graph_laws.specs.Lists.{All, All-left, All-right}
-use Rattle.graph_laws.specs.AnswerSizes.{TwoFloats, numbers-length, floats_append, floats_length}
+use Rattle.graph_laws.specs.AnswerSizes.{TwoFloats, numbers-length, floats_append, floats_length, endings_length, residuals_length}
 use Rattle.graph_laws.specs.ReadBack.{ending-back, numbers_append}
 use Rattle.claims.specs.CallByParts.{ending_of}
 use Rattle.definition.specs.Answer.{PartAnswer, ending_number, ending_residual, answered_beliefs, belief_numbers, belief_floats, ending_numbers, ending_floats}
@@ -31,6 +31,13 @@ pub record PartsFit (ps : List PartAnswer) (grades : List ℕ) (values : List Fl
 pub record SomeParts (grades : List ℕ) (values : List Float) (endings : List ℕ) (residuals : List Float) (count at size : ℕ) : Type 0 where
   pub parts : List PartAnswer
   pub good : PartsFit parts grades values endings residuals count at size
+
+pub endings_fit : {ps : List PartAnswer} {grades : List ℕ} {values : List Float} {endings : List ℕ} {residuals : List Float} {count at size : ℕ} →
+    PartsFit ps grades values endings residuals count at size → (4 * count ≤ length endings) × (count ≤ length residuals)
+endings_fit {ps} r =
+    let e = begins-long _ _ r.stand.endings_begin in
+    let f = begins-long _ _ r.stand.residuals_begin in
+    (omega (arith, e, r.many, endings_length ps), omega (arith, f, r.many, residuals_length ps))
 
 -- ---- the first of the parts
 

@@ -1,7 +1,6 @@
 -- The lines of the depot, as far as a loop has put them: those of the first i totals.
 use Rattle.std.specs.Prelude.{◌≡◌, refl, Bool, true, false, cond, List, [], ◌∷◌, ◌++◌, ℕ, suc, ◌+◌, ◌*◌, ◌^◌, ◌≤◌, ◌<◌, eqb, length, get_or, take}
 use Rattle.std.proofs.Common.{sym, ap, ◌∙◌, append_assoc, append-nil, add-one, arith, eq-eqb, ne_eqb, length-append, take-suc, length-take-le}
-use Rattle.std.proofs.Math.Seq.{take-length}
 use Rattle.definition.specs.Listing.{decimal, line}
 use Rattle.definition.specs.Tonnage.{total_lines}
 use Rattle.list_laws.specs.Put.{put-none}
@@ -74,6 +73,3 @@ total-put {l} {ts} {m} {k} {i} {n} {j} a h few room f e w =
       short = omega (arith, a.short, w.place, total-short i (get_or ts i 0) (omega arith) f);
       long = written-long w z ∙ a.long;
     }
-
-pub all_totals : {l ts m : List ℕ} {k i : ℕ} → TotalsWritten l ts m k i → i ≡ length ts → Written l 0 (total_lines 0 ts) m k
-all_totals {l} {ts} {m} {k} {i} a e = written_is (ap (λ (n : ℕ). total_lines 0 (take n ts)) e ∙ ap (total_lines 0) (take-length ts)) a.written

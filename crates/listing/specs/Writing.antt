@@ -1,9 +1,8 @@
 -- Bytes written into a buffer from a place on, and a line as its fields, each with the byte that ends it.
-use Rattle.std.specs.Prelude.{◌≡◌, refl, List, [], ◌∷◌, ◌++◌, ℕ, ◌+◌, ◌≤◌, ◌<◌, length, get_or, set}
+use Rattle.std.specs.Prelude.{◌≡◌, refl, List, [], ◌∷◌, ◌++◌, ℕ, ◌+◌, ◌≤◌, ◌<◌, length, set}
 use Rattle.std.proofs.Common.{ap, ◌∙◌, arith, length-append}
 use Rattle.list_laws.specs.Put.{put, put_next, put-none, length-put}
-use Rattle.list_laws.specs.PutMore.{put_one_lem, write-put}
-use Rattle.list_laws.specs.Write.{write}
+use Rattle.list_laws.specs.PutMore.{put_one_lem}
 use Rattle.definition.specs.Text.{ascii}
 use Rattle.definition.specs.Listing.{line}
 
@@ -14,13 +13,6 @@ pub record Written (l : List ℕ) (at : ℕ) (s m : List ℕ) (k : ℕ) : Type 0
 
 pub written_byte : (l : List ℕ) (at b : ℕ) → at < length l → Written l at (b ∷ []) (set l at b) (at + 1)
 written_byte l at b h = record { bytes = put_one_lem 0 l at b h; place = refl }
-
--- a word that was copied byte by byte
-pub written_word :
-    (l : List ℕ) (at : ℕ) (s m : List ℕ) (i : ℕ) →
-    at + length s ≤ length l → i ≡ length s → m ≡ write l at i (λ k. get_or s k 0) → Written l at s m (at + i)
-written_word l at s m i h e w =
-    record { bytes = (rw e at w) ∙ write-put 0 l at s (λ k. get_or s k 0) h (λ k q. refl); place = ap (λ (z : ℕ). at + z) e }
 
 -- s and then t
 pub written_next :

@@ -27,9 +27,7 @@ fn put_digits(out: &mut [u8], at: usize, count: usize, n: u64, base: u64) -> usi
     ensures { Written out.old at (digits base count n) out.new result }
 {
     let mut rest = n;
-    let mut left = count;
-    while 0 < left {
-        left -= 1;
+    for left in (0..count).rev() {
         out[at + left] = hex_digit(rest % base);
         rest /= base;
     }
@@ -70,12 +68,9 @@ pub(crate) fn put_word(out: &mut [u8], at: usize, text: &[u8], after: u8) -> usi
     requires { at + length text.now < length out.old }
     ensures { Written out.old at (field text.now after) out.new result }
 {
-    let mut i = 0;
-    while i < text.len() {
-        out[at + i] = text[i];
-        i += 1;
-    }
-    put_byte(out, at + i, after)
+    let end = at + text.len();
+    out[at..end].copy_from_slice(text);
+    put_byte(out, end, after)
 }
 
 pub(crate) fn put_number(out: &mut [u8], at: usize, n: u64, after: u8) -> usize

@@ -14,10 +14,8 @@ pub fn put_beliefs(out: &mut [u8], at: usize, numbers: &[u32], floats: &[f32]) -
     ensures { (bs : List Belief) → BeliefsFit bs numbers.now floats.now at (length out.old) → Written out.old at (belief_lines bs) out.new result }
 {
     let mut k = at;
-    let mut i = 0;
-    while i < numbers.len() {
-        k = put_grade(out, k, numbers[i], floats[2 * i], floats[2 * i + 1]);
-        i += 1;
+    for (i, &grade) in numbers.iter().enumerate() {
+        k = put_grade(out, k, grade, floats[2 * i], floats[2 * i + 1]);
     }
     k
 }
@@ -37,8 +35,7 @@ pub fn put_parts(
 {
     let mut k = at;
     let mut first: usize = 0;
-    let mut e = 0;
-    while e < count {
+    for e in 0..count {
         let last = first + endings[4 * e + 3] as usize;
         let number = endings[4 * e];
         let ending = endings[4 * e + 1];
@@ -46,7 +43,6 @@ pub fn put_parts(
         k = put_ending(out, k, number, ending, steps, residuals[e]);
         k = put_beliefs(out, k, &grades[first..last], &values[2 * first..2 * last]);
         first = last;
-        e += 1;
     }
     k
 }

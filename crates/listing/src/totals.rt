@@ -20,13 +20,10 @@ pub fn put_totals(out: &mut [u8], totals: &[u64]) -> usize
     ensures { Written out.old 0 (total_lines 0 totals.now) out.new result }
 {
     let mut end = 0;
-    let mut i = 0;
-    while i < totals.len() {
-        let grams = totals[i];
+    for (grade, &grams) in totals.iter().enumerate() {
         if grams != 0 {
-            end = put_total(out, end, i, grams);
+            end = put_total(out, end, grade, grams);
         }
-        i += 1;
     }
     end
 }

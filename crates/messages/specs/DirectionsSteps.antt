@@ -26,20 +26,11 @@ module _ (w : List ℕ) (at nodes edges out n d slot far place : ℕ) (es : slot
   read_next : get_or w (out + 4 * edges + d) 0 + get_or w (edges_place at nodes edges + 5 * slot + 4) 0 ≡ get_or w (out + 4 * edges + d) 0 + get_or w (edge_place w at nodes edges d + 4) 0
   read_next = ap (λ (k : ℕ). get_or w (out + 4 * edges + d) 0 + get_or w (edges_place at nodes edges + 5 * k + 4) 0) es
 
-  pub back_fits : StepFits w at nodes edges out n d → get_or w (firsts_place at nodes + far) 0 + place < 4294967296
-  back_fits S = omega (arith, read_back_lem, S.back)
-
-  pub next_fits : StepFits w at nodes edges out n d → get_or w (out + 4 * edges + d) 0 + get_or w (edges_place at nodes edges + 5 * slot + 4) 0 < 4294967296
-  next_fits S = omega (arith, read_next, S.next)
-
   pub step_is :
       set (set (set w (out + d) far) (out + 2 * edges + d) (get_or w (firsts_place at nodes + far) 0 + place)) (out + 4 * edges + d + 1) (get_or w (out + 4 * edges + d) 0 + get_or w (edges_place at nodes edges + 5 * slot + 4) 0)
       ≡ direction_step at nodes edges out n d w
   unfolding direction_step
   step_is = cc (read_far, read_back_lem, read_next)
-
-pub far_lt : (w : List ℕ) (at nodes edges out n d slot far : ℕ) → slot ≡ get_or w (slots_place at nodes + d) 0 → far ≡ far_node w (edges_place at nodes edges + 5 * slot) n → StepFits w at nodes edges out n d → far < nodes
-far_lt w at nodes edges out n d slot far es ef S = omega (arith, ef ∙ ap (λ (k : ℕ). far_node w (edges_place at nodes edges + 5 * k) n) es, S.start)
 
 -- ---- the slots of one node: w₀ are the words before the first of them
 

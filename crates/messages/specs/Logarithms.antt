@@ -1,5 +1,5 @@
 -- Sums of the logarithms of a row of messages, and that they are finite: the logarithm lies within 91 of 0 at any value that binary32 has.
-use Rattle.std.specs.Prelude.{◌≡◌, refl, List, [], map, ℕ, ◌+◌, ◌*◌, ◌/◌, ◌^◌, ◌≤◌, ◌<◌, length, drop, get_or, Float}
+use Rattle.std.specs.Prelude.{◌≡◌, List, [], map, ℕ, ◌+◌, ◌*◌, ◌/◌, ◌^◌, ◌≤◌, ◌<◌, length, drop, get_or, Float}
 use Rattle.std.proofs.Common.{sym, ap, ◌∙◌, subst, add-one, arith, drop_of_length-le, drop-cons}
 use Rattle.std.proofs.lemmas.List.{length-map}
 use Rattle.std.proofs.Math.ListN.{get_or-map}
@@ -33,9 +33,6 @@ summed k a ms = sum_from a (logs_of k ms)
 pub record Upto (k : ℕ) (from : Float) (l : List Float) (i : ℕ) (acc : Float) : Type 0 where
   pub rest : sum_from acc (drop i (logs_of k (pairs l))) ≡ summed k from (pairs l)
   pub wide : Wide (91 + i * 91) acc
-
-pub start : (k : ℕ) (from : Float) (l : List Float) → Wide 91 from → Upto k from l 0 from
-start k from l w = record { rest = refl; wide = w }
 
 module _ (k : ℕ) (from : Float) (l : List Float) where
   pub turn :

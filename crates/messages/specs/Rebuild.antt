@@ -1,13 +1,14 @@
 -- The change of a tree's incoming messages, message by message.
 use Rattle.std.proofs.Math.Path.{◌≡◌, refl, sym, ap}
 use Rattle.std.proofs.Common.{◌∙◌, le_of_eq, add-one, drop_of_length-le, length-drop, drop-cons, take_all}
-use Rattle.std.specs.Prelude.{Bool, ◌&&◌, ◌||◌, ℕ, suc, ◌+◌, ◌-◌, ◌/◌, ◌≤◌, ◌<◌, take, get_or, Float}
+use Rattle.std.specs.Prelude.{Bool, ◌&&◌, ◌||◌, ℕ, suc, ◌+◌, ◌-◌, ◌/◌, ◌≤◌, ◌<◌, take, Float}
 use Rattle.std.proofs.Math.Bool.{true, false, not}
 use Rattle.std.proofs.Math.Option.{some}
 use mathlib.Core.List.{List, [], ◌∷◌}
 use native.Mathlib.Omega.{arith}
 use Rattle.std.proofs.Math.ListN.{length, drop}
-use Rattle.std.specs.Float.Ieee.{nan, lt, eq, ne}
+use Rattle.std.specs.Float.Ieee.{lt, eq}
+use Rattle.std.specs.Cmp.Lexicographic.{pointwise}
 use Rattle.definition.specs.Floats.{◌⊕◌, ◌⊗◌, zeroᶠ, twoᶠ}
 use Rattle.definition.specs.Vectors.{Message}
 use Rattle.definition.specs.Directions.{message_at}
@@ -20,34 +21,13 @@ tree_row n l = take (n + 1) l ∷ pairs (drop (n + 1) l)
 
 -- ---- equality
 
-module _ (m o : List Float) (i : ℕ) (h : i < length m) (l : length m ≡ length o) where
-  opened : equal_messages (drop i m) (drop i o) ≡ (eq (get_or m i nan) (get_or o i nan) && equal_messages (drop (suc i) m) (drop (suc i) o))
-  unfolding equal_messages
-  opened =
-      let g : i < length o = omega arith in
-      ap (λ (u : List Float). equal_messages u (drop i o)) (drop-cons m i nan h) ∙ ap (λ (u : List Float). equal_messages (get_or m i nan ∷ drop (suc i) m) u) (drop-cons o i nan g)
-
-  pub equal_turn : ne (get_or m i nan) (get_or o i nan) ≡ false → equal_messages (drop (i + 1) m) (drop (i + 1) o) ≡ equal_messages (drop i m) (drop i o)
-  unfolding ne
-  equal_turn e = ap (λ (n : ℕ). equal_messages (drop n m) (drop n o)) (add-one i) ∙ go (eq (get_or m i nan) (get_or o i nan)) e ∙ sym opened
-    where
-      go : (b : Bool) → not b ≡ false → equal_messages (drop (suc i) m) (drop (suc i) o) ≡ (b && equal_messages (drop (suc i) m) (drop (suc i) o))
-      go true f = refl
-      go false f = let z : ◌≡◌ {A = Bool} true false = f in cc
-
-  pub equal_not : ne (get_or m i nan) (get_or o i nan) ≡ true → false ≡ equal_messages (drop i m) (drop i o)
-  unfolding ne
-  equal_not e = go (eq (get_or m i nan) (get_or o i nan)) e ∙ sym opened
-    where
-      go : (b : Bool) → not b ≡ true → false ≡ (b && equal_messages (drop (suc i) m) (drop (suc i) o))
-      go true f = let z : ◌≡◌ {A = Bool} false true = f in cc
-      go false f = refl
-
-pub equal_all : (m o : List Float) (i : ℕ) → length m ≤ i → length m ≡ length o → true ≡ equal_messages (drop i m) (drop i o)
+-- std's `==` of slices
+slice_eq : (m o : List Float) → pointwise eq m o ≡ equal_messages m o
 unfolding equal_messages
-equal_all m o i h l =
-    let g : length o ≤ i = omega arith in
-    sym (ap (λ (u : List Float). equal_messages u (drop i o)) (drop_of_length-le m h) ∙ ap (equal_messages []) (drop_of_length-le o g))
+slice_eq [] [] = refl
+slice_eq [] (y ∷ o) = refl
+slice_eq (x ∷ m) [] = refl
+slice_eq (x ∷ m) (y ∷ o) = ap (λ (b : Bool). eq x y && b) (slice_eq m o)
 
 -- ---- the summed change
 
@@ -92,13 +72,13 @@ rest_change t k m o =
 
 -- ---- the two together
 
-module _ (t : Float) (m o : Message) (ms os : List Message) (r : Bool) (e : r ≡ equal_messages m o) where
-  by-test : (b : Bool) → not r ≡ b → (b || change_exceeds t zeroᶠ ms os) ≡ needs_rebuild t (m ∷ ms) (some (o ∷ os))
+module _ (t : Float) (m o : Message) (ms os : List Message) (r : Bool) (e : r ≡ not (pointwise eq m o)) where
+  by-test : (b : Bool) → r ≡ b → (b || change_exceeds t zeroᶠ ms os) ≡ needs_rebuild t (m ∷ ms) (some (o ∷ os))
   unfolding needs_rebuild
-  by-test b f = sym (ap (λ (u : Bool). u || change_exceeds t zeroᶠ ms os) f) ∙ ap (λ (u : Bool). not u || change_exceeds t zeroᶠ ms os) e
+  by-test b f = ap (λ (u : Bool). u || change_exceeds t zeroᶠ ms os) (sym f ∙ e ∙ ap not (slice_eq m o))
 
-  pub rebuild_other : not r ≡ true → true ≡ needs_rebuild t (m ∷ ms) (some (o ∷ os))
+  pub rebuild_other : r ≡ true → true ≡ needs_rebuild t (m ∷ ms) (some (o ∷ os))
   rebuild_other f = by-test true f
 
-  pub rebuild_change : not r ≡ false → change_exceeds t zeroᶠ ms os ≡ needs_rebuild t (m ∷ ms) (some (o ∷ os))
+  pub rebuild_change : r ≡ false → change_exceeds t zeroᶠ ms os ≡ needs_rebuild t (m ∷ ms) (some (o ∷ os))
   rebuild_change f = by-test false f

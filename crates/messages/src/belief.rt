@@ -2,15 +2,13 @@
 ghost use Rattle.std.specs.Prelude.{◌≡◌, ◌/◌, ◌≤◌, length};
 ghost use Rattle.definition.specs.Vectors.{binary};
 ghost use Rattle.definition.specs.Answer.{marginal};
-ghost use Rattle.array_utils.specs.LogTable.{log_table};
 ghost use Rattle.messages.specs.Pairs.{pairs};
 
 use crate::rows::{add_logs, logs};
-use array_utils::VariableMessage;
+use array_utils::{LogTable, VariableMessage};
 
 // The rows are the grade's incoming messages, two floats each. No floor is set: a belief is sent to nobody.
-pub fn marginal(table: &[f32; 1025], belief: VariableMessage, rows: &[f32]) -> VariableMessage
-    requires table_value { table.now ≡ log_table }
+pub fn marginal(table: &LogTable, belief: VariableMessage, rows: &[f32]) -> VariableMessage
     requires rows_len_bound { length rows.now / 2 ≤ 1024 }
     ensures { binary result.absent result.present ≡ marginal (binary belief.absent belief.present) (pairs rows.now) }
 {

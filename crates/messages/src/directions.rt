@@ -9,9 +9,9 @@ ghost use Rattle.messages.specs.Directions.{far_node, place_in_far, direction_st
 ghost use Rattle.messages.specs.DirectionsRead.{kinds_row, labels_row, firsts_row, starts_row, outs_row, offsets_row, RecordFits, RowsFit};
 
 // A word as an index.
-fn word(words: &[u32], i: usize) -> usize
+pub fn word(words: &[u32], i: usize) -> usize
     requires { i < length words.now }
-    ensures { result ≡ get_or words.now i 0 }
+    ensures { (result ≡ get_or words.now i 0) × (result < 4294967296) }
 {
     words[i] as usize
 }
@@ -70,11 +70,8 @@ fn fill_node(words: &mut [u32], at: usize, nodes: usize, edges: usize, out: usiz
     ensures { (base labels : List ℕ) (g : Subgraph) → Filled base at out labels g (get_or words.old (firsts_place at nodes + n) 0) words.old → Filled base at out labels g (get_or words.old (firsts_place at nodes + n + 1) 0) words.new }
 {
     let first = at + 2 + 2 * nodes + n;
-    let end = word(words, first + 1);
-    let mut d = word(words, first);
-    while d < end {
+    for d in word(words, first)..word(words, first + 1) {
         fill_direction(words, at, nodes, edges, out, n, d);
-        d += 1;
     }
 }
 
@@ -86,10 +83,8 @@ pub fn fill_directions(words: &mut [u32], at: usize, out: usize)
     let nodes = word(words, at);
     let edges = word(words, at + 1);
     words[out + 4 * edges] = 0;
-    let mut n = 0;
-    while n < nodes {
+    for n in 0..nodes {
         fill_node(words, at, nodes, edges, out, n);
-        n += 1;
     }
 }
 

@@ -14,10 +14,8 @@ fn weigh_rows(out: &mut [f32], cpd: &[f32], message: VariableMessage)
     requires { length cpd.now ≡ 2 * length out.old }
     ensures { out.new ≡ column (weighted message.absent message.present) cpd.now }
 {
-    let mut i = 0;
-    while i < out.len() {
-        out[i] = cpd[2 * i] * message.absent + cpd[2 * i + 1] * message.present;
-        i += 1;
+    for (i, x) in out.iter_mut().enumerate() {
+        *x = cpd[2 * i] * message.absent + cpd[2 * i + 1] * message.present;
     }
 }
 
@@ -31,10 +29,8 @@ fn lower_entry(x: f32) -> f32
 fn lower_all(out: &mut [f32])
     ensures { out.new ≡ map lowered out.old }
 {
-    let mut i = 0;
-    while i < out.len() {
-        out[i] = lower_entry(out[i]);
-        i += 1;
+    for x in out.iter_mut() {
+        *x = lower_entry(*x);
     }
 }
 

@@ -4,10 +4,9 @@ ghost use Rattle.std.specs.Float.{inf};
 ghost use Rattle.definition.specs.Floats.{abs};
 ghost use Rattle.definition.specs.Vectors.{binary};
 ghost use Rattle.definition.specs.Messages.{abs_log_ratio, pair_residual, vector_residual};
-ghost use Rattle.array_utils.specs.LogTable.{log_table};
 ghost use Rattle.messages.specs.Residual.{residual_of};
 
-use array_utils::VariableMessage;
+use array_utils::{LogTable, VariableMessage};
 
 // f32::abs: of -0 it is 0.
 fn abs(x: f32) -> f32
@@ -19,54 +18,42 @@ fn abs(x: f32) -> f32
     if x < 0.0 { -x } else { x }
 }
 
-pub(crate) fn abs_log_ratio(table: &[f32; 1025], x: f32, y: f32) -> f32
-    requires { table.now ≡ log_table }
+pub(crate) fn abs_log_ratio(table: &LogTable, x: f32, y: f32) -> f32
     ensures { result ≡ abs_log_ratio x y }
 {
-    abs(array_utils::ln_from_table(table, x / y))
+    abs(table.ln(x / y))
 }
 
 // Of a message of two: the larger ratio first, then its logarithm without its sign.
-pub fn residual_binary(table: &[f32; 1025], m: VariableMessage, o: VariableMessage) -> f32
-    requires { table.now ≡ log_table }
+pub fn residual_binary(table: &LogTable, m: VariableMessage, o: VariableMessage) -> f32
     ensures { result ≡ pair_residual (binary m.absent m.present) (binary o.absent o.present) }
 {
     let ratio = array_utils::max(m.absent / o.absent, m.present / o.present);
-    abs(array_utils::ln_from_table(table, ratio))
+    abs(table.ln(ratio))
 }
 
 // Of a vector: the largest of the logarithms without sign.
-pub fn residual_vector(table: &[f32; 1025], m: &[f32], o: &[f32]) -> f32
-    requires table_value { table.now ≡ log_table }
+pub fn residual_vector(table: &LogTable, m: &[f32], o: &[f32]) -> f32
     requires m_len { length m.now ≡ length o.now }
     ensures { result ≡ vector_residual (inf true) m.now o.now }
 {
     // -inf, which no constant can hold.
     let mut largest: f32 = -1.0 / 0.0;
-    let mut i = 0;
-    while i < m.len() {
-        largest = array_utils::max(largest, abs_log_ratio(table, m[i], o[i]));
-        i += 1;
+    for (i, x) in m.iter().enumerate() {
+        largest = array_utils::max(largest, abs_log_ratio(table, *x, o[i]));
     }
     largest
 }
 
 // A message of over two entries goes between a factor and its tree.
-pub fn residual(table: &[f32; 1025], m: &[f32], o: &[f32]) -> f32
-    requires table_value { table.now ≡ log_table }
+pub fn residual(table: &LogTable, m: &[f32], o: &[f32]) -> f32
     requires in_bounds { (1 < length m.now) × (length m.now ≡ length o.now) }
     ensures { result ≡ residual_of m.now o.now }
 {
     if 2 < m.len() {
         return residual_vector(table, m, o);
     }
-    let now = VariableMessage {
-        absent: m[0],
-        present: m[1],
-    };
-    let old = VariableMessage {
-        absent: o[0],
-        present: o[1],
-    };
+    let now = VariableMessage::read(m, 0);
+    let old = VariableMessage::read(o, 0);
     residual_binary(table, now, old)
 }

@@ -2,48 +2,39 @@
 ghost use Rattle.std.specs.Prelude.{◌≡◌, ◌/◌, ◌≤◌, ◌<◌, length};
 ghost use Rattle.definition.specs.Vectors.{binary};
 ghost use Rattle.definition.specs.Directions.{message_at};
-ghost use Rattle.array_utils.specs.LogTable.{log_table};
 ghost use Rattle.messages.specs.Pairs.{pairs};
 ghost use Rattle.messages.specs.Logarithms.{Logs, Wide, summed};
 
-use array_utils::VariableMessage;
+use array_utils::{LogTable, VariableMessage};
 
 pub(crate) fn message_at(rows: &[f32], i: usize) -> VariableMessage
     requires { i < length rows.now / 2 }
     ensures { binary result.absent result.present ≡ message_at i (pairs rows.now) }
 {
-    VariableMessage {
-        absent: rows[2 * i],
-        present: rows[2 * i + 1],
-    }
+    VariableMessage::read(rows, 2 * i)
 }
 
 // The logarithm is within 91 of 0 whatever it is taken of: so sums of so few as a node has are finite.
-pub fn logs(table: &[f32; 1025], m: VariableMessage) -> VariableMessage
-    requires { table.now ≡ log_table }
+pub fn logs(table: &LogTable, m: VariableMessage) -> VariableMessage
     ensures { Logs m.absent m.present result.absent result.present }
 {
     VariableMessage {
-        absent: array_utils::ln_from_table(table, m.absent),
-        present: array_utils::ln_from_table(table, m.present),
+        absent: table.ln(m.absent),
+        present: table.ln(m.present),
     }
 }
 
 // The logarithms of the two columns added to two sums, from the first row to the last.
-pub(crate) fn add_logs(table: &[f32; 1025], from: VariableMessage, rows: &[f32]) -> VariableMessage
-    requires table_value { table.now ≡ log_table }
+pub(crate) fn add_logs(table: &LogTable, from: VariableMessage, rows: &[f32]) -> VariableMessage
     requires rows_len_bound { (length rows.now / 2 ≤ 1024) × Wide 91 from.absent × Wide 91 from.present }
     ensures { (result.absent ≡ summed 0 from.absent (pairs rows.now)) × (result.present ≡ summed 1 from.present (pairs rows.now)) × Wide 100000 result.absent × Wide 100000 result.present }
 {
-    let n = rows.len() / 2;
     let mut absent = from.absent;
     let mut present = from.present;
-    let mut i = 0;
-    while i < n {
+    for i in 0..rows.len() / 2 {
         let l = logs(table, message_at(rows, i));
         absent += l.absent;
         present += l.present;
-        i += 1;
     }
     VariableMessage { absent, present }
 }

@@ -1,23 +1,16 @@
 // `fill_in_factor` of src/node.rs: the noisy-OR table of a marker, in a row of floats that the caller lends.
 #![tactic(auto)]
 
-ghost use Rattle.std.specs.Prelude.{◌≡◌, max, ◌*◌, ◌≤◌, length};
+ghost use Rattle.std.specs.Prelude.{◌≡◌, ◌*◌, ◌≤◌, length};
 ghost use Rattle.definition.specs.NoisyOr.{cpd_rows, cpd_table};
 ghost use Rattle.node.specs.Rows.{flat_rows, given, regularised_of, absent_of, row_total};
 
-// An entry of the Rust's divide_array: max(i, 1).
-fn divide_entry(i: u32) -> u32
-    ensures { result ≡ max i 1 }
-{
-    if i == 0 { 1 } else { i }
-}
-
-// The Rust's cpd_regularized_0, of its cpd_0: cpd_0^i * (1 - beta) / max(i, 1).
+// The Rust's cpd_regularized_0, of its cpd_0: cpd_0^i * (1 - beta) / max(i, 1), the divisors being its divide_array.
 fn cpd_regularised_absent(cpd: f32, beta: f32, i: u32) -> f32
     requires { i ≤ 129 }
     ensures { result ≡ regularised_of cpd beta i }
 {
-    array_utils::powi(cpd, i) * (1.0 - beta) / (divide_entry(i) as f32)
+    array_utils::powi(cpd, i) * (1.0 - beta) / (i.max(1) as f32)
 }
 
 // Of the power (1 - alpha)^i, which gives the Rust's cpd_0: (1 - alpha)^i * (1 - beta).
@@ -42,15 +35,13 @@ fn fill_rows(cpd: &mut [f32], degree: u32, alpha: f32, beta: f32, regularised: b
     let powers = degree as usize;
     array_utils::powers(&mut cpd[powers..], 1.0 - alpha);
     let mut sum: f32 = 0.0;
-    let mut i: u32 = 0;
-    while i < degree {
+    for i in 0..degree {
         let row = i as usize;
         let absent = row_absent(cpd[powers + row], beta, regularised, i);
         let present = 1.0 - absent;
         cpd[2 * row] = absent;
         cpd[2 * row + 1] = present;
         sum += absent + present;
-        i += 1;
     }
     sum
 }

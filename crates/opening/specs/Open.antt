@@ -1,17 +1,15 @@
 -- The opening as a whole: the row of messages afterwards, the floats of a part afterwards, and that they stand for the definition's store.
-use Rattle.std.specs.Prelude.{ℕ, ◌+◌, ◌-◌, ◌*◌, ◌≤◌, ◌<◌, ◌≡◌, refl, List, [], ◌∷◌, ◌++◌, map, Float, length, get_or, take, drop, replicate}
+use Rattle.std.specs.Prelude.{ℕ, ◌+◌, ◌-◌, ◌*◌, ◌≤◌, ◌≡◌, refl, List, [], ◌∷◌, ◌++◌, map, Float, length, get_or, take, drop, replicate}
 use Rattle.std.proofs.Common.{arith, sym, ap, ◌∙◌, append_assoc, length-append, drop-drop}
 use Rattle.std.proofs.Math.Option.{none}
-use Rattle.std.specs.Float.{nan}
 use Rattle.std.proofs.Math.Seq.{take-append_seam, drop-append_seam}
 use Rattle.definition.specs.Vectors.{Message}
 use Rattle.definition.specs.Settings.{Settings}
 use Rattle.definition.specs.Directions.{MessageNode, MessageGraph}
 use Rattle.definition.specs.Messages.{LastBuild}
 use Rattle.definition.specs.Sweeps.{initialize_messages, opening}
-use Rattle.list_laws.specs.Part.{region, get_d_region, length-region}
-use Rattle.list_laws.specs.Put.{put, put-part, put_is, length-put}
-use Rattle.list_laws.specs.Write.{write, length-write, write_in, write-below, write-above}
+use Rattle.list_laws.specs.Part.{region, length-region}
+use Rattle.list_laws.specs.Put.{put, put-part, length-put}
 use Rattle.messages.specs.Layout.{cut, width}
 use Rattle.messages.specs.LayoutOffsets.{offset-end}
 use Rattle.messages.specs.State.{PartRows, FloatRows, part_floats, builds_of, store_of}
@@ -42,18 +40,6 @@ module _ {kinds firsts starts outs offsets labels : List ℕ} {evidence row : Li
 
     pub grades-rows : GradesRows s t kinds firsts outs offsets row'
     grades-rows = record { starts = starts; labels = labels; evidence = evidence; part = R.part; long = e ∙ R.long }
-
--- ---- a row copied
-
-pub row_copied : (w : List Float) (to n : ℕ) → to + n ≤ length w → n ≤ to → write w to n (λ k. get_or w k nan) ≡ put w to (region w 0 n)
-row_copied w to n h l =
-    let e : length (region w 0 n) ≡ n = length-region w 0 n (omega arith) in
-    let f : ℕ → Float = λ k. get_or w k nan in
-    put_is nan (write w to n f) w to (region w 0 n) (omega arith) (length-write w to n f)
-    (λ k q.
-    let b : k < n = omega arith in
-    write_in w to n k f nan b h ∙ sym (get_d_region w 0 n k nan b ∙ ap (λ (i : ℕ). get_or w i nan) (let z : 0 + k ≡ k = omega arith in z)))
-    (λ j q. write-below w to n j f nan q) (λ j q. write-above w to n j f nan (omega arith))
 
 -- ---- three rows the same
 

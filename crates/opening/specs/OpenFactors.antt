@@ -148,11 +148,6 @@ module _ (s : Settings) (t : MessageGraph) (kinds firsts starts outs offsets lab
       Q.start (get_or firsts n 0) d ∙ ap (λ (k : ℕ). (direction_at t k).start) (let z : get_or firsts n 0 ≡ (node_at t n).first_incoming + 0 = omega (arith, Q.first n h) in z) ∙ sym F.reversed.end in
       ap (λ (k : ℕ). get_or kinds k 0) a ∙ Q.kind (direction_at t (outgoing_at t n 0)).end (omega (arith, a, Q.start-lt (get_or firsts n 0) d))
 
-  -- nothing is sent
-  pub factor-none : length x.outgoing ≡ 0 → ms ≡ set_messages x.outgoing (opening_factor s t x ms) ms
-  unfolding opening_factor
-  factor-none z = sym (stays x.outgoing (out_message s t ms) ms (λ i q. absurd (let y : ⊥ = omega arith in y)))
-
   pub factor_input : 0 < length x.outgoing → get_or kinds (get_or starts (get_or firsts n 0) 0) 0 ≡ 2 → ms ≡ set_messages x.outgoing (opening_factor s t x ms) ms
   unfolding opening_factor
   factor_input p k =
@@ -222,9 +217,6 @@ module _ (s : Settings) (t : MessageGraph) (kinds firsts starts outs offsets : L
 
   Q' : RowsRead t kinds firsts starts outs offsets
   Q' = rows-read P'.subgraph t P'.consistent P'.in_order kinds firsts starts outs offsets P'.rows
-
-  pub opened_none : get_or firsts (n + 1) 0 ≤ get_or firsts n 0 → cut t.directions row ≡ set_messages (node_at t n).outgoing (opening_factor s t (node_at t n) (cut t.directions row)) (cut t.directions row)
-  opened_none q = factor-none s t kinds firsts starts outs offsets R.labels R.evidence row P' R.long n h c (omega (arith, Q'.degree n h))
 
   pub opened_input : get_or firsts n 0 < get_or firsts (n + 1) 0 → get_or kinds (get_or starts (get_or firsts n 0) 0) 0 ≡ 2 → cut t.directions row ≡ set_messages (node_at t n).outgoing (opening_factor s t (node_at t n) (cut t.directions row)) (cut t.directions row)
   opened_input q k = factor_input s t kinds firsts starts outs offsets R.labels R.evidence row P' R.long n h c (omega (arith, Q'.degree n h)) k

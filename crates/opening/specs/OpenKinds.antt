@@ -12,7 +12,6 @@ use Rattle.definition.specs.Directions.{MessageNode, MessageGraph, no_message_no
 use Rattle.definition.specs.Messages.{initial_belief}
 use Rattle.definition.specs.Sweeps.{update_kind, opening_input}
 use Rattle.graph_laws.specs.AloneChecks.{All-getD}
-use Rattle.graph_laws.specs.Bools.{not-true, eqb_sound}
 use Rattle.graph_laws.specs.MessageLengths.{AllBinary, MessageNodeSound}
 use Rattle.list_laws.specs.Part.{region}
 use Rattle.messages.specs.Layout.{cut, width, kind_code}
@@ -26,15 +25,9 @@ use Rattle.opening.specs.OpenSends.{region-two}
 
 -- ---- a turn by the code
 
-pub not_code : (c d : ℕ) → (c ≡ d → ⊥) → eqb c d ≡ false
-not_code c d h = not-true (eqb c d) (λ e. h (eqb_sound c d e))
-
 module _ (p : Kind → Bool) (f : MessageNode → List Message → List Message) (x : MessageNode) (ms : List Message) where
   pub turn-taken : p x.kind ≡ true → set_messages x.outgoing (f x ms) ms ≡ kind_step p f x ms
   turn-taken e = sym (ap (λ (b : Bool). elim b as (λ (c : Bool). List Message) [ true ↦ set_messages x.outgoing (f x ms) ms | false ↦ ms ]) e)
-
-  pub turn-passed : p x.kind ≡ false → ms ≡ kind_step p f x ms
-  turn-passed e = sym (ap (λ (b : Bool). elim b as (λ (c : Bool). List Message) [ true ↦ set_messages x.outgoing (f x ms) ms | false ↦ ms ]) e)
 
 -- ---- the loop
 
@@ -95,18 +88,9 @@ module _ (s : Settings) (t : MessageGraph) (kinds firsts outs offsets labels : L
   pub inputs_send : SendRows s t firsts outs offsets row
   inputs_send = record { kinds = kinds; starts = R.starts; labels = labels; evidence = evidence; part = R.part; long = R.long }
 
-  pub inputs_label : n < length labels
-  inputs_label = omega (arith, inputs_read.kinds-long, R.part.labels-long)
-
-  pub input_passed : (get_or kinds n 0 ≡ 2 → ⊥) → cut t.directions row ≡ kind_step is_input (opening_input s) (node_at t n) (cut t.directions row)
-  input_passed h = turn-passed is_input (opening_input s) (node_at t n) (cut t.directions row) (code_input (node_at t n).kind ∙ not_code (kind_code (node_at t n).kind) 2 (λ e. h (inputs_read.kind n inputs_node ∙ e)))
-
   module _ (k : get_or kinds n 0 ≡ 2) where
     code : kind_code (node_at t n).kind ≡ 2
     code = sym (inputs_read.kind n inputs_node) ∙ k
-
-    pub input_room : 2 * get_or labels n 0 + 1 < length evidence
-    input_room = (input_belief s (node_at t n).kind (get_or labels n 0) evidence code (R.part.inputs n inputs_node)).0
 
     pub input_outgoing : AllBinary t (node_at t n).outgoing
     input_outgoing = input_binary t (node_at t n).kind (node_at t n) code (All-getD (λ y. MessageNodeSound t y.kind y) t.nodes R.part.kept.sound.nodes no_message_node n inputs_node)
@@ -141,9 +125,6 @@ module _ (s : Settings) (t : MessageGraph) (kinds firsts starts outs offsets : L
 
   pub factor-code : get_or kinds n 0 ≡ 1 → kind_code (node_at t n).kind ≡ 1
   factor-code k = sym (factors_read.kind n factors_node) ∙ k
-
-  pub factor-passed : (f : MessageNode → List Message → List Message) → (get_or kinds n 0 ≡ 1 → ⊥) → cut t.directions row ≡ kind_step is_factor f (node_at t n) (cut t.directions row)
-  factor-passed f h = turn-passed is_factor f (node_at t n) (cut t.directions row) (code-factor (node_at t n).kind ∙ not_code (kind_code (node_at t n).kind) 1 (λ e. h (factors_read.kind n factors_node ∙ e)))
 
   pub factor-taken : (f : MessageNode → List Message → List Message) → get_or kinds n 0 ≡ 1 → (ms : List Message) → ms ≡ set_messages (node_at t n).outgoing (f (node_at t n) (cut t.directions row)) (cut t.directions row)
       → ms ≡ kind_step is_factor f (node_at t n) (cut t.directions row)
@@ -181,9 +162,6 @@ module _ (s : Settings) (t : MessageGraph) (kinds firsts outs offsets : List ℕ
 
   pub grade-code : get_or kinds n 0 ≡ 0 → kind_code (node_at t n).kind ≡ 0
   grade-code k = sym (grades-read.kind n grades-node) ∙ k
-
-  pub grade-passed : (f : MessageNode → List Message → List Message) → (get_or kinds n 0 ≡ 0 → ⊥) → cut t.directions row ≡ kind_step is_grade f (node_at t n) (cut t.directions row)
-  grade-passed f h = turn-passed is_grade f (node_at t n) (cut t.directions row) (code-grade (node_at t n).kind ∙ not_code (kind_code (node_at t n).kind) 0 (λ e. h (grades-read.kind n grades-node ∙ e)))
 
   pub grade-taken : (f : MessageNode → List Message → List Message) → get_or kinds n 0 ≡ 0 → (ms : List Message) → ms ≡ set_messages (node_at t n).outgoing (f (node_at t n) (cut t.directions row)) (cut t.directions row)
       → ms ≡ kind_step is_grade f (node_at t n) (cut t.directions row)

@@ -1,10 +1,10 @@
 -- What each kind of node sends at the opening, in a row: the blanks, an input's belief, a factor's message to its first neighbour, a grade's messages.
 use Rattle.std.specs.Prelude.{ℕ, zero, suc, ◌+◌, ◌-◌, ◌≤◌, ◌<◌, ◌≡◌, refl, Bool, true, false, not, List, [], ◌∷◌, ◌++◌, map, T, ltb, Float, length, get_or, take, drop, set, replicate}
-use Rattle.std.proofs.Common.{add-zero, arith, sym, ap, ◌∙◌, lt→ltb, nltb→le, ltb→lt, length-set, ext_get_or, get_or-set_same, get_or-set_other}
+use Rattle.std.proofs.Common.{add-zero, arith, sym, ap, ◌∙◌, lt→ltb, nltb→le, ltb→lt, ext_get_or}
 use Rattle.std.proofs.Math.Dec.{not_T}
 use Rattle.std.specs.Float.{nan}
 use Rattle.std.specs.Float.Ieee.Bits.{is_true, is_false}
-use Rattle.std.proofs.lemmas.List.{length-map, length-replicate, get_or-replicate}
+use Rattle.std.proofs.lemmas.List.{length-map, length-replicate}
 use Rattle.definition.specs.Floats.{oneᶠ, halfᶠ}
 use Rattle.definition.specs.Vectors.{Message, binary}
 use Rattle.definition.specs.Settings.{Settings}
@@ -12,9 +12,9 @@ use Rattle.definition.specs.Directions.{Direction, MessageGraph, no_direction, n
 use Rattle.definition.specs.Sweeps.{initial_message}
 use Rattle.graph_laws.specs.DirectionNumbers.{get_d_mapped}
 use Rattle.graph_laws.specs.MessageLengths.{AllBinary}
-use Rattle.list_laws.specs.Put.{put, put-part, put_is, length-put}
+use Rattle.list_laws.specs.Put.{put, put-part}
 use Rattle.list_laws.specs.Part.{region, get_d_region, length-region}
-use Rattle.list_laws.specs.Write.{write, write-next, write-none, write_ext}
+use Rattle.list_laws.specs.Write.{write, write-next, write-none}
 use Rattle.list_laws.specs.Whole.{write-whole}
 use Rattle.messages.specs.Layout.{cut}
 use Rattle.messages.specs.LayoutOffsets.{long_at}
@@ -80,9 +80,6 @@ module _ (ds : List Direction) (offsets : List ℕ) (row₀ row m : List Float) 
   is-put : take from row ++ (m ++ drop (to - from) (drop from row)) ≡ put row (get_or offsets i 0) m
   is-put = put-part row m from (to - from) m-long ∙ ap (λ (n : ℕ). put row n m) f
 
-  pub filled-long : length (take from row ++ (m ++ drop (to - from) (drop from row))) ≡ length row₀
-  filled-long = ap length is-put ∙ length-put row (get_or offsets i 0) m (omega (arith, m-long, offset-long ds offsets row₀ R i h, offset-end-le ds offsets row₀ R i h)) ∙ e
-
   pub initial_turn : x ≡ initial_entry (to - from) → InitialTo ds row₀ i row → InitialTo ds row₀ (i + 1) (take from row ++ (m ++ drop (to - from) (drop from row)))
   initial_turn p I =
       let d : to - from ≡ get_or offsets (i + 1) 0 - get_or offsets i 0 = omega arith in
@@ -91,24 +88,6 @@ module _ (ds : List Direction) (offsets : List ℕ) (row₀ row m : List Float) 
 
 pub initial_all : (ds : List Direction) (row₀ row : List Float) → InitialTo ds row₀ (length ds) row → cut ds row ≡ map initial_message ds
 initial_all ds row₀ row I = I ∙ write-whole [] (cut ds row₀) (map initial_message ds) (length ds) (length_cut ds row₀) (length-map ds initial_message)
-
--- all entries of a part the same
-pub replicate-all : {A : Type 0} (l : List A) (x : A) (n : ℕ) → length l ≡ n → write l 0 n (λ k. x) ≡ replicate n x
-replicate-all l x n e = write_ext l 0 n (λ k. x) (λ k. get_or (replicate n x) k x) (λ k h. sym (get_or-replicate n k x x h)) ∙ write-whole x l (replicate n x) n e (length-replicate n x)
-
--- ---- two floats stored are a message put
-
-pub put_two : (w : List Float) (at : ℕ) (a b : Float) → at + 1 < length w → set (set w at a) (at + 1) b ≡ put w at (binary a b)
-put_two w at a b h =
-    put_is nan (set (set w at a) (at + 1) b) w at (binary a b) (omega arith) (length-set (set w at a) (at + 1) b ∙ length-set w at a) inside
-    (λ j q. get_or-set_other (set w at a) (at + 1) j b nan (λ e. omega arith) ∙ get_or-set_other w at j a nan (λ e. omega arith))
-    (λ j q. get_or-set_other (set w at a) (at + 1) j b nan (λ e. omega arith) ∙ get_or-set_other w at j a nan (λ e. omega arith))
-  where
-    inside : (k : ℕ) → k < 2 → get_or (set (set w at a) (at + 1) b) (at + k) nan ≡ get_or (binary a b) k nan
-    inside zero q =
-        ap (λ (n : ℕ). get_or (set (set w at a) (at + 1) b) n nan) (add-zero at) ∙ get_or-set_other (set w at a) (at + 1) at b nan (λ e. omega arith) ∙ get_or-set_same w at a nan (omega arith)
-    inside (suc zero) q = get_or-set_same (set w at a) (at + 1) b nan (omega (arith, length-set w at a))
-    inside (suc (suc k)) q = absurd (let z : ⊥ = omega arith in z)
 
 -- ---- the same message to all neighbours
 

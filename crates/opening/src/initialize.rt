@@ -1,5 +1,5 @@
 // `initialize_messages`: what stands before anything is sent, and what the inputs, the factors and the grades send first, each into the one row of messages.
-ghost use Rattle.std.specs.Prelude.{◌≡◌, List, map, ℕ, ◌+◌, ◌-◌, ◌<◌, length, get_or, replicate};
+ghost use Rattle.std.specs.Prelude.{◌≡◌, List, map, ℕ, ◌+◌, ◌-◌, ◌<◌, length, get_or};
 ghost use Rattle.list_laws.specs.Part.{region};
 ghost use Rattle.list_laws.specs.Put.{put};
 ghost use Rattle.definition.specs.Settings.{Settings};
@@ -9,50 +9,15 @@ ghost use Rattle.definition.specs.Messages.{out_message_factor};
 ghost use Rattle.definition.specs.Sweeps.{initial_message, leave_one_out, opening_factor, opening_grade};
 ghost use Rattle.node.specs.Rows.{given};
 ghost use Rattle.graph_laws.specs.MessageLengths.{AllBinary};
-ghost use Rattle.array_utils.specs.LogTable.{log_table};
 ghost use Rattle.messages.specs.Layout.{cut, kind_code};
 ghost use Rattle.messages.specs.Logarithms.{Wide};
 ghost use Rattle.opening.specs.OpenRows.{MessageRow, SomeMessageRow, SendRows, SomeSendRows, FactorRows, SomeFactorRows, FactorSettings, SendRoom, SomeGradeRows};
 ghost use Rattle.opening.specs.OpenSends.{initial_entry};
 
-use array_utils::VariableMessage;
+use array_utils::{LogTable, VariableMessage};
+use factor_graph::kind::NodeKind;
+use messages::directions::word;
 use messages::{leave_one_out, log_total, out_message_factor};
-
-pub(crate) fn word(words: &[u32], i: usize) -> usize
-    requires { i < length words.now }
-    ensures { result ≡ get_or words.now i 0 }
-{
-    words[i] as usize
-}
-
-// A message of two floats, read and stored.
-pub(crate) fn get_message(row: &[f32], at: usize) -> VariableMessage
-    requires { at + 1 < length row.now }
-    ensures { binary result.absent result.present ≡ region row.now at 2 }
-{
-    VariableMessage {
-        absent: row[at],
-        present: row[at + 1],
-    }
-}
-
-pub(crate) fn put_message(row: &mut [f32], at: usize, message: VariableMessage)
-    requires { at + 1 < length row.old }
-    ensures { row.new ≡ put row.old at (binary message.absent message.present) }
-{
-    row[at] = message.absent;
-    row[at + 1] = message.present;
-}
-
-fn fill_with(part: &mut [f32], x: f32)
-    ensures { part.new ≡ replicate (length part.old) x }
-{
-    let mut i = 0;
-    while i < part.len() {
-        part[i] = x;
-        i += 1;
-    }
-}
 
 fn initial_entry(len: usize) -> f32
     ensures { result ≡ initial_entry len }
@@ -65,13 +30,10 @@ pub(crate) fn fill_initial(row: &mut [f32], offsets: &[u32])
     requires { SomeMessageRow offsets.now row.old }
     ensures { (ds : List Direction) → MessageRow ds offsets.now row.old → cut ds row.new ≡ map initial_message ds }
 {
-    let last = offsets.len() - 1;
-    let mut d = 0;
-    while d < last {
+    for d in 0..offsets.len() - 1 {
         let from = word(offsets, d);
         let to = word(offsets, d + 1);
-        fill_with(&mut row[from..to], initial_entry(to - from));
-        d += 1;
+        row[from..to].fill(initial_entry(to - from));
     }
 }
 
@@ -87,12 +49,8 @@ pub(crate) fn send_same(
     requires { SomeSendRows firsts.now outs.now offsets.now row.old n }
     ensures { (s : Settings) (t : MessageGraph) → SendRows s t firsts.now outs.now offsets.now row.old → n < length t.nodes → AllBinary t (node_at t n).outgoing → cut t.directions row.new ≡ set_messages (node_at t n).outgoing (map (λ (o : ℕ). binary message.absent message.present) (node_at t n).outgoing) (cut t.directions row.old) }
 {
-    let end = word(firsts, n + 1);
-    let mut k = word(firsts, n);
-    while k < end {
-        let at = word(offsets, word(outs, k));
-        put_message(row, at, message);
-        k += 1;
+    for k in word(firsts, n)..word(firsts, n + 1) {
+        message.write(row, word(offsets, word(outs, k)));
     }
 }
 
@@ -111,7 +69,7 @@ fn send_factor(
 {
     let from = word(offsets, out);
     let to = word(offsets, out + 1);
-    let message = get_message(row, word(offsets, inn));
+    let message = VariableMessage::read(row, word(offsets, inn));
     out_message_factor(&mut row[from..to], alpha, beta, regularised, message);
 }
 
@@ -135,7 +93,7 @@ pub(crate) fn open_factor(
     if word(firsts, n + 1) <= first {
         return;
     }
-    if word(kinds, word(starts, first)) == 2 {
+    if word(kinds, word(starts, first)) == NodeKind::Input as usize {
         return;
     }
     let out = word(outs, first);
@@ -144,7 +102,7 @@ pub(crate) fn open_factor(
 
 // Each message leaves the receiver's own out of the total. What node n holds stays as it is while it sends.
 fn send_left_out(
-    table: &[f32; 1025],
+    table: &LogTable,
     row: &mut [f32],
     firsts: &[u32],
     outs: &[u32],
@@ -152,25 +110,20 @@ fn send_left_out(
     n: usize,
     total: VariableMessage,
 )
-    requires table_value { table.now ≡ log_table }
     requires some_send_rows { SomeSendRows firsts.now outs.now offsets.now row.old n }
     requires wide { Wide 100000 total.absent × Wide 100000 total.present }
     ensures { (s : Settings) (t : MessageGraph) → SendRows s t firsts.now outs.now offsets.now row.old → n < length t.nodes → kind_code (node_at t n).kind ≡ 0 → cut t.directions row.new ≡ set_messages (node_at t n).outgoing (map (leave_one_out total.absent total.present) (messages_in (node_at t n) (cut t.directions row.old))) (cut t.directions row.old) }
 {
-    let end = word(firsts, n + 1);
-    let mut k = word(firsts, n);
-    while k < end {
-        let own = get_message(row, word(offsets, k));
+    for k in word(firsts, n)..word(firsts, n + 1) {
+        let own = VariableMessage::read(row, word(offsets, k));
         let message = leave_one_out(table, total, own);
-        let at = word(offsets, word(outs, k));
-        put_message(row, at, message);
-        k += 1;
+        message.write(row, word(offsets, word(outs, k)));
     }
 }
 
 // A grade with one neighbour sends its belief.
 pub(crate) fn open_grade(
-    table: &[f32; 1025],
+    table: &LogTable,
     row: &mut [f32],
     firsts: &[u32],
     outs: &[u32],
@@ -178,14 +131,10 @@ pub(crate) fn open_grade(
     n: usize,
     prior: f32,
 )
-    requires table_value { table.now ≡ log_table }
     requires some_grade_rows { SomeGradeRows firsts.now outs.now offsets.now row.old n }
     ensures { (s : Settings) (t : MessageGraph) → SendRows s t firsts.now outs.now offsets.now row.old → n < length t.nodes → kind_code (node_at t n).kind ≡ 0 → s.prior ≡ prior → cut t.directions row.new ≡ set_messages (node_at t n).outgoing (opening_grade s (node_at t n) (cut t.directions row.old)) (cut t.directions row.old) }
 {
-    let belief = VariableMessage {
-        absent: 1.0 - prior,
-        present: prior,
-    };
+    let belief = VariableMessage::from_prior(prior);
     let first = word(firsts, n);
     let end = word(firsts, n + 1);
     if end <= first + 1 {

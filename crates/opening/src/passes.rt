@@ -4,13 +4,15 @@ ghost use Rattle.definition.specs.Settings.{Settings};
 ghost use Rattle.definition.specs.FactorGraph.{is_grade, is_factor, is_input};
 ghost use Rattle.definition.specs.Directions.{MessageGraph, node_at};
 ghost use Rattle.definition.specs.Sweeps.{update_kind, opening_input, opening_factor, opening_grade};
-ghost use Rattle.array_utils.specs.LogTable.{log_table};
 ghost use Rattle.messages.specs.Layout.{cut};
 ghost use Rattle.messages.specs.LayoutSweeps.{kind_step};
 ghost use Rattle.opening.specs.OpenRows.{FactorRows, FactorSettings};
 ghost use Rattle.opening.specs.OpenKinds.{InputsRows, SomeInputsRows, SomeFactorsRows, GradesRows, SomeGradesRows};
 
-use crate::initialize::{get_message, open_factor, open_grade, send_same, word};
+use crate::initialize::{open_factor, open_grade, send_same};
+use array_utils::{LogTable, VariableMessage};
+use factor_graph::kind::NodeKind;
+use messages::directions::word;
 
 // An input sends its belief, which stands at its label in the evidence.
 fn open_input(
@@ -26,11 +28,12 @@ fn open_input(
     requires { SomeInputsRows kinds.now firsts.now outs.now offsets.now labels.now evidence.now row.old × (n < length kinds.now) }
     ensures { (s : Settings) (t : MessageGraph) → InputsRows s t kinds.now firsts.now outs.now offsets.now labels.now evidence.now row.old → cut t.directions row.new ≡ kind_step is_input (opening_input s) (node_at t n) (cut t.directions row.old) }
 {
-    if word(kinds, n) != 2 {
+    if word(kinds, n) != NodeKind::Input as usize {
         return;
     }
     let at = 2 * word(labels, n);
-    send_same(row, firsts, outs, offsets, n, get_message(evidence, at));
+    let belief = VariableMessage::read(evidence, at);
+    send_same(row, firsts, outs, offsets, n, belief);
 }
 
 fn open_if_factor(
@@ -48,7 +51,7 @@ fn open_if_factor(
     requires { SomeFactorsRows kinds.now firsts.now starts.now outs.now offsets.now row.old × (n < length kinds.now) }
     ensures { (s : Settings) (t : MessageGraph) → FactorRows s t kinds.now firsts.now starts.now outs.now offsets.now row.old → FactorSettings s alpha beta regularised → cut t.directions row.new ≡ kind_step is_factor (opening_factor s t) (node_at t n) (cut t.directions row.old) }
 {
-    if word(kinds, n) != 1 {
+    if word(kinds, n) != NodeKind::Factor as usize {
         return;
     }
     open_factor(
@@ -66,7 +69,7 @@ fn open_if_factor(
 }
 
 fn open_if_grade(
-    table: &[f32; 1025],
+    table: &LogTable,
     row: &mut [f32],
     kinds: &[u32],
     firsts: &[u32],
@@ -75,11 +78,10 @@ fn open_if_grade(
     n: usize,
     prior: f32,
 )
-    requires table_value { table.now ≡ log_table }
     requires some_grades_rows { SomeGradesRows kinds.now firsts.now outs.now offsets.now row.old × (n < length kinds.now) }
     ensures { (s : Settings) (t : MessageGraph) → GradesRows s t kinds.now firsts.now outs.now offsets.now row.old → s.prior ≡ prior → cut t.directions row.new ≡ kind_step is_grade (opening_grade s) (node_at t n) (cut t.directions row.old) }
 {
-    if word(kinds, n) != 0 {
+    if word(kinds, n) != NodeKind::Grade as usize {
         return;
     }
     open_grade(table, row, firsts, outs, offsets, n, prior);
@@ -97,10 +99,8 @@ pub(crate) fn open_inputs(
     requires { SomeInputsRows kinds.now firsts.now outs.now offsets.now labels.now evidence.now row.old }
     ensures { (s : Settings) (t : MessageGraph) → InputsRows s t kinds.now firsts.now outs.now offsets.now labels.now evidence.now row.old → cut t.directions row.new ≡ update_kind is_input (opening_input s) t.nodes (cut t.directions row.old) }
 {
-    let mut n = 0;
-    while n < kinds.len() {
+    for n in 0..kinds.len() {
         open_input(row, kinds, firsts, outs, offsets, labels, evidence, n);
-        n += 1;
     }
 }
 
@@ -118,8 +118,7 @@ pub(crate) fn open_factors(
     requires { SomeFactorsRows kinds.now firsts.now starts.now outs.now offsets.now row.old }
     ensures { (s : Settings) (t : MessageGraph) → FactorRows s t kinds.now firsts.now starts.now outs.now offsets.now row.old → FactorSettings s alpha beta regularised → cut t.directions row.new ≡ update_kind is_factor (opening_factor s t) t.nodes (cut t.directions row.old) }
 {
-    let mut n = 0;
-    while n < kinds.len() {
+    for n in 0..kinds.len() {
         open_if_factor(
             row,
             kinds,
@@ -132,12 +131,11 @@ pub(crate) fn open_factors(
             beta,
             regularised,
         );
-        n += 1;
     }
 }
 
 pub(crate) fn open_grades(
-    table: &[f32; 1025],
+    table: &LogTable,
     row: &mut [f32],
     kinds: &[u32],
     firsts: &[u32],
@@ -145,13 +143,10 @@ pub(crate) fn open_grades(
     offsets: &[u32],
     prior: f32,
 )
-    requires table_value { table.now ≡ log_table }
     requires some_grades_rows { SomeGradesRows kinds.now firsts.now outs.now offsets.now row.old }
     ensures { (s : Settings) (t : MessageGraph) → GradesRows s t kinds.now firsts.now outs.now offsets.now row.old → s.prior ≡ prior → cut t.directions row.new ≡ update_kind is_grade (opening_grade s) t.nodes (cut t.directions row.old) }
 {
-    let mut n = 0;
-    while n < kinds.len() {
+    for n in 0..kinds.len() {
         open_if_grade(table, row, kinds, firsts, outs, offsets, n, prior);
-        n += 1;
     }
 }

@@ -1,5 +1,5 @@
 -- The queue of a part, where it stands in its words.
-use Rattle.std.specs.Prelude.{ℕ, ◌+◌, ◌-◌, ◌*◌, ◌^◌, ◌≤◌, ◌<◌, ◌≡◌, List, Float, length, get_or, take, drop}
+use Rattle.std.specs.Prelude.{ℕ, ◌+◌, ◌-◌, ◌*◌, ◌^◌, ◌≤◌, ◌<◌, ◌≡◌, List, Float, Option, length, get_or, take, drop}
 use Rattle.std.proofs.Common.{arith, sym, ap, ◌∙◌, subst}
 use Rattle.definition.specs.Settings.{Settings}
 use Rattle.definition.specs.Directions.{MessageGraph}
@@ -9,7 +9,7 @@ use Rattle.priorities.specs.Leaves.{leaves_for, leaves_full, leaves-within}
 use Rattle.priorities.specs.Keys.{encoded, decoded, decoded-encoded, encoded_amounts}
 use Rattle.priorities.specs.Tournament.{Holds, Queue}
 use Rattle.priorities.specs.Answer.{highest_of}
-use Rattle.priorities.specs.declared.Top.{Top}
+use Rattle.priorities.specs.declared.Highest.{Highest}
 use Rattle.zero_lookahead.specs.Part.{leaves_in, queue_at, queue_row, Runs}
 
 pub record SomeQueue (out : ℕ) (words : List ℕ) : Type 0 where
@@ -44,9 +44,6 @@ module _ (out : ℕ) (words : List ℕ) (nodes edges leaves : ℕ) (en : nodes �
       ap (λ (n : ℕ). take n (drop from words)) (let z : from + 2 * leaves - from ≡ 2 * leaves_in words = omega (arith, leaves_are) in z)
       ∙ ap (λ (n : ℕ). take (2 * leaves_in words) (drop n words)) from_is
 
-  pub queue_room : SomeQueue out words → out + (6 * edges + 1) + nodes + 2 * leaves ≤ length words
-  queue_room Q = omega (arith, Q.room, from_is, leaves_are)
-
   pub queue_lent : SomeQueue out words → Queue leaves (take (out + (6 * edges + 1) + nodes + 2 * leaves - (out + (6 * edges + 1) + nodes)) (drop (out + (6 * edges + 1) + nodes) words)) × (leaves ≤ 2 ^ 32)
   queue_lent Q = (
     subst (λ (n : ℕ). Queue n (take (from + 2 * leaves - from) (drop from words))) (sym leaves_are) (subst (λ (l : List ℕ). Queue (leaves_in words) l) (sym lent_is) Q.queue),
@@ -54,7 +51,7 @@ module _ (out : ℕ) (words : List ℕ) (nodes edges leaves : ℕ) (en : nodes �
   )
 
   -- what it answers is the definition's
-  pub highest_is : (s : Settings) (t : MessageGraph) (evidence : List Float) (x : State) (w : List Float) → Runs s t out evidence x words w → (r : Top)
+  pub highest_is : (s : Settings) (t : MessageGraph) (evidence : List Float) (x : State) (w : List Float) → Runs s t out evidence x words w → (r : Option Highest)
       → ((keys : List ℕ) → Holds leaves keys (take (out + (6 * edges + 1) + nodes + 2 * leaves - (out + (6 * edges + 1) + nodes)) (drop (out + (6 * edges + 1) + nodes) words)) → highest_of r ≡ highest_priority (decoded keys))
       → highest_of r ≡ highest_priority x.priorities
   highest_is s t evidence x w R r h =

@@ -7,7 +7,6 @@ ghost use Rattle.definition.specs.Vectors.{Message, binary};
 ghost use Rattle.definition.specs.Directions.{MessageGraph};
 ghost use Rattle.definition.specs.Sweeps.{Store};
 ghost use Rattle.definition.specs.Answer.{marginal, beliefs_among};
-ghost use Rattle.array_utils.specs.LogTable.{log_table};
 ghost use Rattle.list_laws.specs.Part.{region};
 ghost use Rattle.messages.specs.Pairs.{pairs};
 ghost use Rattle.messages.specs.DirectionsRead.{labels_row};
@@ -16,7 +15,8 @@ ghost use Rattle.zero_lookahead.specs.Part.{Given, StandsFor};
 ghost use Rattle.part.specs.Named.{Named, Believed, SomeBeliefs};
 ghost use Rattle.part.specs.Beliefs.{NodeHeld, BeliefRows, SomeRows};
 
-use array_utils::VariableMessage;
+use array_utils::{LogTable, VariableMessage};
+use factor_graph::kind::NodeKind;
 use messages::directions::{firsts_row, kinds_row, labels_row, offsets_row};
 use messages::marginal;
 use zero_lookahead::settings::Settings;
@@ -34,34 +34,28 @@ fn write_belief(
     ensures floats_after { floats.new ≡ set (set floats.old (2 * k) belief.absent) (2 * k + 1) belief.present }
 {
     numbers[k] = grade;
-    floats[2 * k] = belief.absent;
-    floats[2 * k + 1] = belief.present;
+    belief.write(floats, 2 * k);
 }
 
 // The belief of grade n, by its prior and the messages that it holds.
 fn grade_belief(
-    table: &[f32; 1025],
+    table: &LogTable,
     w: &[f32],
     firsts: &[u32],
     offsets: &[u32],
     prior: f32,
     n: usize,
 ) -> VariableMessage
-    requires table_value { table.now ≡ log_table }
     requires node_held { NodeHeld firsts.now offsets.now n (length w.now) }
     ensures { binary result.absent result.present ≡ marginal (binary (oneᶠ ⊖ prior) prior) (pairs (region w.now (begins_at firsts.now offsets.now n) (ends_at firsts.now offsets.now n - begins_at firsts.now offsets.now n))) }
 {
     let begin = offsets[firsts[n] as usize] as usize;
     let end = offsets[firsts[n + 1] as usize] as usize;
-    let belief = VariableMessage {
-        absent: 1.0 - prior,
-        present: prior,
-    };
-    marginal(table, belief, &w[begin..end])
+    marginal(table, VariableMessage::from_prior(prior), &w[begin..end])
 }
 
 fn write_beliefs(
-    table: &[f32; 1025],
+    table: &LogTable,
     w: &[f32],
     kinds: &[u32],
     labels: &[u32],
@@ -71,26 +65,23 @@ fn write_beliefs(
     numbers: &mut [u32],
     floats: &mut [f32],
 ) -> usize
-    requires table_value { table.now ≡ log_table }
     requires some_rows { SomeRows prior kinds.now labels.now firsts.now offsets.now w.now (length numbers.old) (length floats.old) }
     ensures { (s : definition.Settings) (t : MessageGraph) (ms : List Message) (ns : List Node) → BeliefRows s t ms ns kinds.now labels.now firsts.now offsets.now w.now → s.prior ≡ prior → length (beliefs_among s ms ns t.nodes) ≤ length numbers.old → 2 * length (beliefs_among s ms ns t.nodes) ≤ length floats.old → Believed (beliefs_among s ms ns t.nodes) numbers.old floats.old result numbers.new floats.new }
 {
     let mut k = 0;
-    let mut n = 0;
-    while n < kinds.len() {
-        if kinds[n] == 0 {
+    for (n, kind) in kinds.iter().enumerate() {
+        if *kind == NodeKind::Grade as u32 {
             let belief = grade_belief(table, w, firsts, offsets, prior, n);
             write_belief(numbers, floats, k, labels[n], belief);
             k += 1;
         }
-        n += 1;
     }
     k
 }
 
 // How many there are.
 pub fn beliefs(
-    table: &[f32; 1025],
+    table: &LogTable,
     w: &[f32],
     words: &[u32],
     out: usize,
@@ -98,7 +89,6 @@ pub fn beliefs(
     numbers: &mut [u32],
     floats: &mut [f32],
 ) -> usize
-    requires table_value { table.now ≡ log_table }
     requires some_beliefs { SomeBeliefs settings out words.now w.now (length numbers.old) (length floats.old) }
     ensures { (s : definition.Settings) (t : MessageGraph) (evidence : List Float) (x : Store) (ns : List Node) → StandsFor s t out evidence x words.now w.now → Given s settings → Named t ns (labels_row words.now 0) → length (beliefs_among s x.msg_in ns t.nodes) ≤ length numbers.old → 2 * length (beliefs_among s x.msg_in ns t.nodes) ≤ length floats.old → Believed (beliefs_among s x.msg_in ns t.nodes) numbers.old floats.old result numbers.new floats.new }
 {

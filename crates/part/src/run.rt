@@ -1,11 +1,10 @@
 // The run of a part (`zero_lookahead_bp`): the opening, five sweeps, then scheduled steps.
-ghost use Rattle.std.specs.Prelude.{◌≡◌, List, ◌-◌, Float};
+ghost use Rattle.std.specs.Prelude.{◌≡◌, List, Float};
 ghost use Rattle.definition.specs.Settings as definition;
 ghost use Rattle.definition.specs.Directions.{MessageGraph};
 ghost use Rattle.definition.specs.Sweeps.{Store};
 ghost use Rattle.definition.specs.Priorities.{highest_priority};
 ghost use Rattle.definition.specs.Run.{State, loop};
-ghost use Rattle.array_utils.specs.LogTable.{log_table};
 ghost use Rattle.priorities.specs.Answer.{highest_of};
 ghost use Rattle.zero_lookahead.specs.Part.{Given, PartRoom, SomePartRoom, StandsFor, SomeStanding, Runs, KeptFront};
 ghost use Rattle.part.specs.Ending.{Ran, Ends};
@@ -13,14 +12,15 @@ ghost use Rattle.part.specs.RunSweeps.{swept};
 ghost use Rattle.part.specs.RunQueue.{SomeQueue};
 ghost use Rattle.part.specs.RunSteps.{AtStart, SomeStart};
 
-use priorities::{Top, highest_priority, leaves_for};
+use array_utils::LogTable;
+use messages::directions::word;
+use priorities::{Highest, highest_priority, leaves_for};
 use steps::log::Changed;
 use zero_lookahead::begin::begin;
 use zero_lookahead::open::open;
 use zero_lookahead::settings::Settings;
 use zero_lookahead::step::scheduled_step;
 use zero_lookahead::sweep::sweep;
-use zero_lookahead::words::word;
 
 // How a part ends, with the last residual.
 #[derive(Clone, Copy)]
@@ -37,27 +37,24 @@ pub struct Ended {
 }
 
 fn five_sweeps(
-    table: &[f32; 1025],
+    table: &LogTable,
     w: &mut [f32],
     words: &mut [u32],
     out: usize,
     evidence: &[f32],
     settings: Settings,
 )
-    requires table_value { table.now ≡ log_table }
     requires some_standing { SomeStanding settings out evidence.now words.old w.old }
     ensures kept_front { KeptFront out words.old words.new }
     ensures stands_for { (s : definition.Settings) (t : MessageGraph) (x : Store) → StandsFor s t out evidence.now x words.old w.old → Given s settings → StandsFor s t out evidence.now (swept s t 5 x) words.new w.new }
 {
-    let mut k: u32 = 0;
-    while k < 5 {
+    for _ in 0..5_u32 {
         sweep(table, w, words, out, evidence, settings);
-        k += 1;
     }
 }
 
 // What waits with the largest amount.
-fn highest(words: &[u32], out: usize) -> Top
+fn highest(words: &[u32], out: usize) -> Option<Highest>
     requires { SomeQueue out words.now }
     ensures { (s : definition.Settings) (t : MessageGraph) (evidence : List Float) (x : State) (w : List Float) → Runs s t out evidence x words.now w → highest_of result ≡ highest_priority x.priorities }
 {
@@ -70,7 +67,7 @@ fn highest(words: &[u32], out: usize) -> Top
 
 // At most so many scheduled steps. The tests come in this order: the limit, the last residual, the queue.
 fn scheduled_steps(
-    table: &[f32; 1025],
+    table: &LogTable,
     w: &mut [f32],
     words: &mut [u32],
     out: usize,
@@ -78,7 +75,6 @@ fn scheduled_steps(
     settings: Settings,
     limit: u32,
 ) -> Ended
-    requires table_value { table.now ≡ log_table }
     requires some_start { SomeStart settings out evidence.now words.old w.old }
     ensures kept_front { KeptFront out words.old words.new }
     ensures ends { (s : definition.Settings) (t : MessageGraph) (x : State) → Runs s t out evidence.now x words.old w.old → Given s settings → AtStart t x → Ends s t out evidence.now (loop s t limit x) result.ending result.steps words.new w.new }
@@ -94,27 +90,19 @@ fn scheduled_steps(
         if !(tolerance < last) {
             break Ending::Settled(last);
         }
-        let top = highest(words, out);
-        let Top::At(direction, amount) = top else {
+        let Some(top) = highest(words, out) else {
             break Ending::Empty;
         };
-        let d = direction as usize;
+        let d = top.direction as usize;
         changed = scheduled_step(table, w, words, out, evidence, settings, changed, d);
-        last = amount;
+        last = top.amount;
         steps += 1;
     };
     Ended { ending, steps }
 }
 
-// The loop's count starts at 5.
-fn steps_left(limit: u32) -> u32
-    ensures { result ≡ limit - 5 }
-{
-    if limit < 5 { 0 } else { limit - 5 }
-}
-
 pub fn run(
-    table: &[f32; 1025],
+    table: &LogTable,
     w: &mut [f32],
     words: &mut [u32],
     out: usize,
@@ -122,7 +110,6 @@ pub fn run(
     settings: Settings,
     limit: u32,
 ) -> Ended
-    requires table_value { table.now ≡ log_table }
     requires some_part_room { SomePartRoom settings out evidence.now words.old w.old }
     ensures kept_front { KeptFront out words.old words.new }
     ensures ran { (s : definition.Settings) (t : MessageGraph) → PartRoom s t out evidence.now words.old w.old → Given s settings → s.loop_limit ≡ limit → Ran s t out evidence.now result.ending result.steps words.new w.new }
@@ -130,5 +117,7 @@ pub fn run(
     open(table, w, words, out, evidence, settings);
     five_sweeps(table, w, words, out, evidence, settings);
     begin(table, w, words, out, settings);
-    scheduled_steps(table, w, words, out, evidence, settings, steps_left(limit))
+    // The loop's count starts at 5.
+    let left = limit.saturating_sub(5);
+    scheduled_steps(table, w, words, out, evidence, settings, left)
 }

@@ -1,5 +1,5 @@
 -- The call as the code has it, and the definition's.
-use Rattle.std.specs.Prelude.{ℕ, ◌*◌, ◌/◌, ◌≤◌, ◌<◌, ◌≡◌, List, Float}
+use Rattle.std.specs.Prelude.{ℕ, ◌*◌, ◌/◌, ◌≤◌, ◌<◌, ◌≡◌, Ok, Err, List, Float}
 use native.Mathlib.Omega.{arith}
 use Rattle.std.proofs.Math.Path.{sym, ap}
 use Rattle.std.proofs.Common.{◌∙◌}
@@ -10,7 +10,9 @@ use Rattle.definition.specs.Refusals.{Verdict, accepted, refused, markers_of, pa
 use Rattle.graph_laws.specs.Accepted.{nowhere}
 use Rattle.graph_laws.specs.Bools.{ltb_no}
 use Rattle.checks.specs.Slices.{length_markers}
-use Rattle.checks.specs.Verdicts.{skip}
+use Rattle.checks.specs.declared.refusal.Check.TheVariants.{TooManyMarkers}
+use Rattle.checks.specs.declared.refusal.Refusal.{Refusal}
+use Rattle.checks.specs.Verdicts.{number_of, skip}
 use Rattle.definition.specs.Reads.{with_reads, all_weak}
 use Rattle.definition.specs.Report.{ample_for, sizes_verdict, ReportLent, report_sizes, reported, report_result}
 use Rattle.definition.specs.Patterns.{pattern_counts, pattern_verdict, pattern_call}
@@ -22,12 +24,11 @@ use Rattle.pattern_laws.specs.Table.{pattern_table, none_fails}
 use Rattle.reads.specs.Put.{read_floats}
 use Rattle.reads.specs.Room.{run_accepted}
 use Rattle.reads.specs.Reported.{report_lent_with, report_result_with}
-use Rattle.reads.specs.declared.check.ReportOutcome.TheVariants.{Reported, Refused}
 use Rattle.patterns.specs.Pattern.{pattern_bale, markers_many}
 use Rattle.patterns.specs.All.{Countable, CountedAll}
 
 module _ (s : Settings) (g : ℕ) (es : List Float) (ps : List ℕ) (l : ReportLent) where
-  pub too_many_lem : 10 < length es / 2 → report_result_with (Refused 18 0) l ≡ pattern_call s g es ps l
+  pub too_many_lem : 10 < length es / 2 → report_result_with (Err record { check = TooManyMarkers; place = 0 }) l ≡ pattern_call s g es ps l
   unfolding pattern_call report_result bale_of
   too_many_lem h =
       let first : First pattern_order (PatternFails s (report_sizes l) (bale_of g es ps)) 18 0 =
@@ -52,9 +53,9 @@ module _ (s : Settings) (g : ℕ) (es : List Float) (ps : List ℕ) (l : ReportL
     unfolding pattern_verdict bale_of lowest_place
     call-judged h = sym (skip 18 _ _ (nowhere 0 _ (ltb_no 10 (length b.markers) (omega (arith, markers_many g m 0 ps)), tt)))
 
-    pub call_refused : (n p : ℕ) → refused n p ≡ pattern_verdict s (report_sizes l) (pattern_bale g m 0 ps) → report_result_with (Refused n p) l ≡ pattern_call s g es ps l
+    pub call_refused : (r : Refusal) → refused (number_of r.check) r.place ≡ pattern_verdict s (report_sizes l) (pattern_bale g m 0 ps) → report_result_with (Err r) l ≡ pattern_call s g es ps l
     unfolding report_result
-    call_refused n p e = ap (λ (v : Verdict). report_result v b g (pattern_counts s b) l) e ∙ sym call-is
+    call_refused r e = ap (λ (v : Verdict). report_result v b g (pattern_counts s b) l) e ∙ sym call-is
 
     module _ (A : accepted ≡ pattern_verdict s (report_sizes l) (pattern_bale g m 0 ps)) where
       pub call_countable : m ≤ 10 → (n : ℕ) → n ≡ 2 * m → Countable s g m ps n (length l.work_floats) (length l.work_numbers) (length l.report)
@@ -74,7 +75,7 @@ module _ (s : Settings) (g : ℕ) (es : List Float) (ps : List ℕ) (l : ReportL
 
       pub call-counted :
           (wf : List Float) (wn r : List ℕ) → CountedAll s g m ps l.work_floats l.work_numbers l.report wf wn r →
-          report_result_with (Reported g) (report_lent_with wf wn r) ≡ pattern_call s g es ps l
+          report_result_with (Ok g) (report_lent_with wf wn r) ≡ pattern_call s g es ps l
       unfolding report_result bale_of
       call-counted wf wn r C =
           (λ i. record { outcome = reported g; lent = record { work_floats = C.work_floats i; work_numbers = C.work_numbers i; report = C.report i } })

@@ -1,10 +1,11 @@
 -- The report while it is counted: how it starts, and how a pattern's beliefs move it.
-use Rattle.std.specs.Prelude.{ℕ, zero, suc, ◌+◌, ◌-◌, ◌*◌, ◌≤◌, ◌<◌, ◌≡◌, Bool, true, false, List, [], ◌∷◌, ◌++◌, Float, length, get_or, set, drop}
+use Rattle.std.specs.Prelude.{ℕ, zero, suc, ◌+◌, ◌-◌, ◌*◌, ◌≤◌, ◌<◌, ◌≡◌, refl, Bool, true, false, not, List, [], ◌∷◌, ◌++◌, Float, length, get_or, set, drop}
 use Rattle.std.proofs.Common.{arith, sym, ap, ◌∙◌, subst, append_assoc, length-set, length-drop, length-append, drop-cons}
 use Rattle.std.specs.Float.{nan}
 use Rattle.definition.specs.Call.{overwrite}
 use Rattle.definition.specs.Reads.{above_half}
 use Rattle.graph_laws.specs.Overwriting.{over-length, over-one, over-two}
+use Rattle.report_laws.specs.Counts.{one_if}
 use Rattle.pattern_laws.specs.Report.{rows_from, rows_long, rows_snoc}
 
 -- ---- the start
@@ -37,6 +38,10 @@ start-long g n r l h e = ap length e ∙ over-length (started g n) r (omega (ari
 abbrev pub side_at : Bool → ℕ
 side_at true = 0
 side_at false = 1
+
+pub side_is : (c : Bool) → one_if (not c) ≡ side_at c
+side_is true = refl
+side_is false = refl
 
 -- one more on the side, and one less without belief
 unfoldable pub moved : List ℕ → ℕ → Bool → List ℕ

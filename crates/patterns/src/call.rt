@@ -8,8 +8,8 @@ ghost use Rattle.patterns.specs.All.{Countable, CountedAll};
 
 use crate::pattern::count_pattern;
 use crate::tally::start_report;
-use checks::Verdict;
-use reads::{ReportBuffers, ReportOutcome, Settings, check_weak};
+use checks::{Check, Refusal};
+use reads::{ReportBuffers, Settings, check_weak};
 
 // Every pattern of an accepted call.
 fn count_all(
@@ -27,8 +27,7 @@ fn count_all(
 {
     let total: u32 = 1 << markers;
     start_report(report, grades as usize, total);
-    let mut p: u32 = 0;
-    while p < total {
+    for p in 0..total {
         count_pattern(
             settings,
             grades,
@@ -40,7 +39,6 @@ fn count_all(
             work_numbers,
             report,
         );
-        p += 1;
     }
 }
 
@@ -59,12 +57,15 @@ pub fn count_patterns(
     work_floats: &mut [f32],
     work_numbers: &mut [u32],
     report: &mut [u32],
-) -> ReportOutcome
+) -> Result<u32, Refusal>
     ensures { report_result_with result (report_lent_with work_floats.new work_numbers.new report.new) ≡ pattern_call (settings_of alpha beta prior regularised tolerance loop_limit) grades evidence.now pairs.now (report_lent_with work_floats.old work_numbers.old report.old) }
 {
     let markers = evidence.len() / 2;
     if 10 < markers {
-        return ReportOutcome::Refused(18, 0);
+        return Err(Refusal {
+            check: Check::TooManyMarkers,
+            place: 0,
+        });
     }
     let settings = Settings {
         alpha: alpha,
@@ -79,10 +80,7 @@ pub fn count_patterns(
         work_numbers: work_numbers.len(),
         report: report.len(),
     };
-    let verdict = check_weak(settings, grades, markers, pairs, lent, 3 * grades as usize);
-    if let Verdict::Refused(number, place) = verdict {
-        return ReportOutcome::Refused(number, place);
-    }
+    check_weak(settings, grades, markers, pairs, lent, 3 * grades as usize)?;
     let mut reads = [0.0; 20];
     let n = 2 * markers;
     count_all(
@@ -95,5 +93,5 @@ pub fn count_patterns(
         work_numbers,
         report,
     );
-    ReportOutcome::Reported(grades)
+    Ok(grades)
 }

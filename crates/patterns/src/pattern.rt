@@ -13,10 +13,8 @@ fn put_pattern(evidence: &mut [f32], markers: usize, p: u32)
     requires { (length evidence.old ≡ 2 * markers) × (markers ≤ 10) }
     ensures { evidence.new ≡ read_floats (pattern_at markers p) }
 {
-    let mut m: usize = 0;
-    while m < markers {
+    for m in 0..markers {
         put_read(evidence, m, (p >> m) % 2 == 1);
-        m += 1;
     }
 }
 

@@ -6,8 +6,8 @@ ghost use Rattle.reads.specs.Reported.{report_lent_with};
 ghost use Rattle.pikaplatinum.specs.Reported.{ReportAnswers};
 ghost use Rattle.pikaplatinum.specs.AllPatterns.{patterns_reply, patterns_to};
 
+use checks::Refusal;
 use patterns::count_patterns;
-use reads::ReportOutcome;
 
 // How many grades are reported; or the refusal's number and place.
 #[repr(C)]
@@ -18,20 +18,22 @@ pub struct Patterns {
     pub grades: u32,
 }
 
-fn patterns_of(outcome: ReportOutcome) -> Patterns
-    ensures { result ≡ patterns_to outcome }
-{
-    match outcome {
-        ReportOutcome::Reported(grades) => Patterns {
-            refusal: 0,
-            place: 0,
-            grades: grades,
-        },
-        ReportOutcome::Refused(number, place) => Patterns {
-            refusal: number,
-            place: place,
-            grades: 0,
-        },
+impl From<Result<u32, Refusal>> for Patterns {
+    ghost from_gives = { λ answer reply. reply ≡ patterns_to answer };
+
+    fn from(answer: Result<u32, Refusal>) -> Patterns {
+        match answer {
+            Ok(grades) => Patterns {
+                refusal: 0,
+                place: 0,
+                grades: grades,
+            },
+            Err(refusal) => Patterns {
+                refusal: refusal.check.number(),
+                place: refusal.place,
+                grades: 0,
+            },
+        }
     }
 }
 
@@ -52,7 +54,7 @@ pub fn pikaplatinum_count_patterns(
 ) -> Patterns
     ensures { ReportAnswers patterns_reply result (report_lent_with work_floats.new work_numbers.new report.new) (pattern_call (settings_of alpha beta prior regularised tolerance loop_limit) grades evidence.now pairs.now (report_lent_with work_floats.old work_numbers.old report.old)) }
 {
-    let outcome = count_patterns(
+    count_patterns(
         alpha,
         beta,
         prior,
@@ -65,6 +67,6 @@ pub fn pikaplatinum_count_patterns(
         work_floats,
         work_numbers,
         report,
-    );
-    patterns_of(outcome)
+    )
+    .into()
 }

@@ -9,7 +9,8 @@ ghost use Rattle.definition.specs.Refusals.{least_buffers};
 ghost use Rattle.zero_lookahead_belief_propagation.specs.Called.{outcome_of, lent_with};
 ghost use Rattle.pikaplatinum.specs.Reply.{reply_to, Answers, buffers_of};
 
-use zero_lookahead_belief_propagation::{Outcome, calibrate_all_subgraphs};
+use checks::Refusal;
+use zero_lookahead_belief_propagation::{Counts, calibrate_all_subgraphs};
 
 mod all_patterns;
 mod matches;
@@ -19,7 +20,7 @@ pub use all_patterns::{Patterns, pikaplatinum_count_patterns};
 pub use matches::{Matches, pikaplatinum_match_reads};
 pub use tried_settings::{Trials, pikaplatinum_try_settings};
 
-// An outcome as numbers: refusal 0, and how many beliefs and endings there are; or the refusal's number and place.
+// A result as numbers: refusal 0, and how many beliefs and endings there are; or the refusal's number and place.
 #[repr(C)]
 #[derive(Clone, Copy)]
 pub struct Reply {
@@ -29,22 +30,24 @@ pub struct Reply {
     pub endings: u32,
 }
 
-fn reply_of(outcome: Outcome) -> Reply
-    ensures { result ≡ reply_to (outcome_of outcome) }
-{
-    match outcome {
-        Outcome::Answered(beliefs, endings) => Reply {
-            refusal: 0,
-            place: 0,
-            beliefs: beliefs,
-            endings: endings,
-        },
-        Outcome::Refused(number, place) => Reply {
-            refusal: number,
-            place: place,
-            beliefs: 0,
-            endings: 0,
-        },
+impl From<Result<Counts, Refusal>> for Reply {
+    ghost from_gives = { λ answer reply. reply ≡ reply_to (outcome_of answer) };
+
+    fn from(answer: Result<Counts, Refusal>) -> Reply {
+        match answer {
+            Ok(counts) => Reply {
+                refusal: 0,
+                place: 0,
+                beliefs: counts.beliefs,
+                endings: counts.endings,
+            },
+            Err(refusal) => Reply {
+                refusal: refusal.check.number(),
+                place: refusal.place,
+                beliefs: 0,
+                endings: 0,
+            },
+        }
     }
 }
 
@@ -69,7 +72,7 @@ pub fn pikaplatinum_calibrate_all_subgraphs(
     ensures answers { Answers result (lent_with work_floats.new work_numbers.new belief_numbers.new belief_floats.new ending_numbers.new ending_floats.new) (call (settings_of alpha beta prior regularised tolerance loop_limit) grades evidence.now pairs.now (lent_with work_floats.old work_numbers.old belief_numbers.old belief_floats.old ending_numbers.old ending_floats.old)) }
     ensures answered_by_parts { AnsweredByParts (settings_of alpha beta prior regularised tolerance loop_limit) grades evidence.now pairs.now (lent_with work_floats.old work_numbers.old belief_numbers.old belief_floats.old ending_numbers.old ending_floats.old) (call (settings_of alpha beta prior regularised tolerance loop_limit) grades evidence.now pairs.now (lent_with work_floats.old work_numbers.old belief_numbers.old belief_floats.old ending_numbers.old ending_floats.old)) }
 {
-    let outcome = calibrate_all_subgraphs(
+    calibrate_all_subgraphs(
         alpha,
         beta,
         prior,
@@ -85,8 +88,8 @@ pub fn pikaplatinum_calibrate_all_subgraphs(
         belief_floats,
         ending_numbers,
         ending_floats,
-    );
-    reply_of(outcome)
+    )
+    .into()
 }
 
 // How long each buffer must be.

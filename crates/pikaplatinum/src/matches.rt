@@ -3,7 +3,8 @@ ghost use Rattle.std.specs.Prelude.{◌≡◌};
 ghost use Rattle.definition.specs.Readers.{match_call};
 ghost use Rattle.pikaplatinum.specs.Matches.{matches_to, MatchAnswers};
 
-use readers::{Answer, match_reads};
+use checks::Refusal;
+use readers::match_reads;
 
 // How many matches were written; or the refusal's number and place.
 #[repr(C)]
@@ -14,20 +15,22 @@ pub struct Matches {
     pub matches: u32,
 }
 
-fn matches_of(answer: Answer) -> Matches
-    ensures { result ≡ matches_to answer }
-{
-    match answer {
-        Answer::Matches(matches) => Matches {
-            refusal: 0,
-            place: 0,
-            matches: matches,
-        },
-        Answer::Refused(number, place) => Matches {
-            refusal: number,
-            place: place,
-            matches: 0,
-        },
+impl From<Result<u32, Refusal>> for Matches {
+    ghost from_gives = { λ answer reply. reply ≡ matches_to answer };
+
+    fn from(answer: Result<u32, Refusal>) -> Matches {
+        match answer {
+            Ok(matches) => Matches {
+                refusal: 0,
+                place: 0,
+                matches: matches,
+            },
+            Err(refusal) => Matches {
+                refusal: refusal.check.number(),
+                place: refusal.place,
+                matches: 0,
+            },
+        }
     }
 }
 
@@ -40,6 +43,5 @@ pub fn pikaplatinum_match_reads(
 ) -> Matches
     ensures { MatchAnswers result matches.new (match_call upper.now lower.now window matches.old) }
 {
-    let answer = match_reads(upper, lower, window, matches);
-    matches_of(answer)
+    match_reads(upper, lower, window, matches).into()
 }

@@ -5,7 +5,7 @@ ghost use Rattle.reads.specs.Reported.{report_lent_with};
 ghost use Rattle.pikaplatinum.specs.Reported.{ReportAnswers};
 ghost use Rattle.pikaplatinum.specs.TriedSettings.{trials_reply, trials_to};
 
-use reads::ReportOutcome;
+use checks::Refusal;
 use trials::try_settings;
 
 // How many settings are reported; or the refusal's number and place.
@@ -17,20 +17,22 @@ pub struct Trials {
     pub settings: u32,
 }
 
-fn trials_of(outcome: ReportOutcome) -> Trials
-    ensures { result ≡ trials_to outcome }
-{
-    match outcome {
-        ReportOutcome::Reported(settings) => Trials {
-            refusal: 0,
-            place: 0,
-            settings: settings,
-        },
-        ReportOutcome::Refused(number, place) => Trials {
-            refusal: number,
-            place: place,
-            settings: 0,
-        },
+impl From<Result<u32, Refusal>> for Trials {
+    ghost from_gives = { λ answer reply. reply ≡ trials_to answer };
+
+    fn from(answer: Result<u32, Refusal>) -> Trials {
+        match answer {
+            Ok(settings) => Trials {
+                refusal: 0,
+                place: 0,
+                settings: settings,
+            },
+            Err(refusal) => Trials {
+                refusal: refusal.check.number(),
+                place: refusal.place,
+                settings: 0,
+            },
+        }
     }
 }
 
@@ -51,7 +53,7 @@ pub fn pikaplatinum_try_settings(
 ) -> Trials
     ensures { ReportAnswers trials_reply result (report_lent_with work_floats.new work_numbers.new report.new) (trial_call (trials_of settings.now seed bales regularised tolerance loop_limit grades evidence.now pairs.now) (report_lent_with work_floats.old work_numbers.old report.old)) }
 {
-    let outcome = try_settings(
+    try_settings(
         settings,
         seed,
         bales,
@@ -64,6 +66,6 @@ pub fn pikaplatinum_try_settings(
         work_floats,
         work_numbers,
         report,
-    );
-    trials_of(outcome)
+    )
+    .into()
 }

@@ -1,5 +1,6 @@
 -- What the queue answers: the definition's `highest_priority` of the keys that the words hold.
-use Rattle.std.specs.Prelude.{◌≡◌, List, ℕ, ◌+◌, ◌-◌, ◌≤◌, ◌<◌, get_or, Float}
+use Rattle.std.specs.Prelude.{◌≡◌, List, ℕ, ◌+◌, ◌-◌, ◌≤◌, ◌<◌, get_or, Float, None, Some}
+use Rattle.std.specs.Prelude as prelude
 use Rattle.std.proofs.Common.{sym, ap, ◌∙◌, subst, arith}
 use Rattle.std.proofs.Math.Logic.{by_cases}
 use Rattle.std.proofs.Math.Option.{Option, none, some}
@@ -12,12 +13,11 @@ use Rattle.priorities.specs.Leaves.{Full}
 use Rattle.priorities.specs.Keys.{last_key, decode_key, decoded, Amounts, decode_key_lem, keys_highest, keys-empty}
 use Rattle.priorities.specs.Tournament.{Holds, holds_tree, holds_leaf}
 use Rattle.priorities.specs.Descent.{FirstLargest, root_largest}
-use Rattle.priorities.specs.declared.Top.{Top}
-use Rattle.priorities.specs.declared.Top.TheVariants.{Empty, At}
+use Rattle.priorities.specs.declared.Highest as found
 
-abbrev pub highest_of : Top → Option Highest
-highest_of Empty = none
-highest_of (At d x) = some (record { direction = d; priority = x })
+abbrev pub highest_of : prelude.Option found.Highest → Option Highest
+highest_of None = none
+highest_of (Some h) = some (record { direction = h.direction; priority = h.amount })
 
 module _ (w : ℕ) (keys words : List ℕ) (H : Holds w keys words) (f : Full w) where
   below_root : (i : ℕ) → get_or keys i 0 ≤ get_or words 1 0

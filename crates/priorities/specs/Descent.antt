@@ -1,5 +1,5 @@
 -- Going down from the root to the first leaf that holds the root's key.
-use Rattle.std.specs.Prelude.{◌≡◌, refl, List, ℕ, zero, suc, ◌+◌, ◌*◌, ◌^◌, ◌≤◌, ◌<◌, get_or}
+use Rattle.std.specs.Prelude.{◌≡◌, List, ℕ, zero, suc, ◌+◌, ◌*◌, ◌^◌, ◌≤◌, ◌<◌, get_or}
 use Rattle.std.proofs.Common.{sym, ◌∙◌, pow-suc, add-mul, mul_assoc, mul_comm, mul-one, one-mul, le-mul_of_pos_right, le_trans, arith, pow_pos}
 use Rattle.std.proofs.Math.Logic.{by_cases}
 use Rattle.std.proofs.Math.Nat.{le-max_left, le-max_right, max-eq_left, max-eq_right}
@@ -64,16 +64,6 @@ under t w T (suc e) k h b m lo hi =
 pub root_largest : (t : List ℕ) (w : ℕ) → Tree t w → Full w → (m : ℕ) → w ≤ m → m < 2 * w → get_or t m 0 ≤ get_or t 1 0
 root_largest t w T f m lo hi =
     under t w T f.height 1 (omega arith) (omega (arith, f.is, one-mul (2 ^ f.height))) m (omega (arith, f.is, one-mul (2 ^ f.height))) (omega (arith, f.is, one-mul (2 ^ f.height)))
-
-pub descent_start : (t : List ℕ) (w : ℕ) → Full w → Descent t w 1
-descent_start t w f =
-    record {
-      e = f.height;
-      low = omega (arith, f.is, one-mul (2 ^ f.height));
-      high = omega (arith, f.is, one-mul (2 ^ f.height));
-      root = refl;
-      before = λ m a b. absurd (omega (arith, f.is, one-mul (2 ^ f.height)));
-    }
 
 -- to the left child, where the right one is no larger
 pub descent_left :

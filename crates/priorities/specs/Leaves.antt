@@ -52,9 +52,6 @@ pub record Doubling (d w : ℕ) : Type 0 where
   pub is : w ≡ 2 ^ exponent
   pub before : (j : ℕ) → j < exponent → 2 ^ j < d
 
-pub doubling_start : (d : ℕ) → Doubling d 1
-doubling_start d = record { exponent = 0; is = refl; before = λ j h. absurd (let z : ⊥ = omega arith in z) }
-
 pub doubling_next : (d w : ℕ) → w < d → Doubling d w → Doubling d (2 * w)
 doubling_next d w h r =
     record {

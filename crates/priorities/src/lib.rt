@@ -2,7 +2,7 @@
 // the key of direction i; an inner node holds the larger key of its two children; word 0 is not used.
 #![tactic(auto)]
 
-ghost use Rattle.std.specs.Prelude.{◌≡◌, List, ℕ, ◌+◌, ◌*◌, ◌^◌, ◌≤◌, ◌<◌, max, T, length, set, drop};
+ghost use Rattle.std.specs.Prelude.{◌≡◌, List, ℕ, ◌+◌, ◌*◌, ◌^◌, ◌≤◌, ◌<◌, T, length, set, drop};
 ghost use Rattle.std.proofs.Math.Option.{some};
 ghost use Rattle.definition.specs.Priorities.{highest_priority};
 ghost use Rattle.float_laws.specs.Rounded.{clear};
@@ -14,9 +14,9 @@ ghost use Rattle.priorities.specs.Answer.{highest_of};
 
 // The direction that waits with the largest amount, the least such direction, and that amount.
 #[derive(Clone, Copy)]
-pub enum Top {
-    Empty,
-    At(u32, f32),
+pub struct Highest {
+    pub direction: u32,
+    pub amount: f32,
 }
 
 // The least power of two that is not below d.
@@ -46,17 +46,11 @@ pub fn amount_of(key: u32) -> f32
     f32::from_bits(key - 1)
 }
 
-fn larger(a: u32, b: u32) -> u32
-    ensures { result ≡ max a b }
-{
-    if a < b { b } else { a }
-}
-
 fn larger_child(words: &[u32], j: usize) -> u32
     requires { 2 * j + 1 < length words.now }
     ensures { result ≡ larger_child words.now j }
 {
-    larger(words[2 * j], words[2 * j + 1])
+    words[2 * j].max(words[2 * j + 1])
 }
 
 // Makes the inner nodes, from the last to the first, of the leaves that stand there.
@@ -65,9 +59,7 @@ pub fn fill(words: &mut [u32], w: usize)
     ensures { words.new ≡ tournament w (drop w words.old) }
 {
     words[0] = 0;
-    let mut j = w;
-    while 1 < j {
-        j = j - 1;
+    for j in (1..w).rev() {
         words[j] = larger_child(words, j);
     }
 }
@@ -108,15 +100,18 @@ fn first_largest(words: &[u32], w: usize) -> usize
 }
 
 // `get_highest_priority` of src/messages.rs. A direction is a u32, so there are at most 2^32 leaves.
-pub fn highest_priority(words: &[u32], w: usize) -> Top
+pub fn highest_priority(words: &[u32], w: usize) -> Option<Highest>
     requires queue { Queue w words.now }
     requires w_bound { w ≤ 2 ^ 32 }
     ensures { (keys : List ℕ) → Holds w keys words.now → highest_of result ≡ highest_priority (decoded keys) }
 {
     let key = words[1];
     if key == 0 {
-        return Top::Empty;
+        return None;
     }
     let leaf = first_largest(words, w);
-    Top::At((leaf - w) as u32, amount_of(key))
+    Some(Highest {
+        direction: (leaf - w) as u32,
+        amount: amount_of(key),
+    })
 }

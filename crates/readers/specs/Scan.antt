@@ -1,8 +1,8 @@
 -- A scan of the lower reads by their marks: what is passed for good, what is open to an upper read, and where a search may end.
 use Rattle.std.specs.Prelude.{ℕ, zero, suc, ◌+◌, ◌*◌, ◌/◌, ◌≤◌, ◌<◌, ◌≡◌, refl, Bool, true, not, ◌&&◌, ◌||◌, List, map, eqb, leb, ltb, length, get_or}
-use Rattle.std.proofs.Common.{add-one, arith, sym, ap, subst, ◌∙◌, ltb-true, ltb-false, lt-ltb, le-leb, eqb-true}
+use Rattle.std.proofs.Common.{add-one, arith, sym, ap, subst, ◌∙◌, ltb-true, ltb-false, lt-ltb, le-leb}
 use Rattle.std.proofs.Math.Bool.{false, and-false}
-use Rattle.std.proofs.lemmas.Bool.{lt-leb, eqb-false}
+use Rattle.std.proofs.lemmas.Bool.{lt-leb}
 use Rattle.std.proofs.Math.ListN.{length-map}
 use Rattle.definition.specs.Lists.{range}
 use Rattle.definition.specs.Readers.{Read, reads_of, read_at, may_match}
@@ -94,14 +94,6 @@ passed_later w ls marks s t n l p j q = go (eqb (get_or marks j 0) 0) (p j q)
     go : (b : Bool) → (not b || ltb ((read_at ls j).tick + w) s) ≡ true → (not b || ltb ((read_at ls j).tick + w) t) ≡ true
     go true e = let q : (read_at ls j).tick + w < t = omega (arith, ltb-true ((read_at ls j).tick + w) s e) in lt-ltb ((read_at ls j).tick + w) t q
     go false e = refl
-
--- one read more is passed
-pub passed_on : (w : ℕ) (ls : List Read) (marks : List ℕ) (t n : ℕ) → Passed w ls marks t n → is_passed w ls marks t n ≡ true → Passed w ls marks t (n + 1)
-passed_on w ls marks t n p h j l = go (eqb j n) refl
-  where
-    go : (b : Bool) → eqb j n ≡ b → is_passed w ls marks t j ≡ true
-    go true e = ap (is_passed w ls marks t) (eqb-true j n e) ∙ h
-    go false e = p j (let z = eqb-false j n e in omega arith)
 
 -- what is not too late is within the window
 pub not_beyond : (r : Bool) (s t : ℕ) → r ≡ ltb s t → not r ≡ leb t s

@@ -1,9 +1,9 @@
 -- The verdict on two lent slices, check by check.
-use Rattle.std.specs.Prelude.{ℕ, suc, ◌+◌, ◌*◌, ◌/◌, ◌≤◌, ◌<◌, ◌≡◌, refl, Bool, true, false, List, [], ◌∷◌, ◌++◌, length}
+use Rattle.std.specs.Prelude.{ℕ, suc, ◌+◌, ◌*◌, ◌/◌, ◌≤◌, ◌<◌, ◌≡◌, refl, min, Bool, true, false, cond, leb, List, [], ◌∷◌, ◌++◌, length}
 use Rattle.std.proofs.Common.{arith, ◌∙◌}
 use Rattle.std.proofs.Math.Path.{sym, ap}
 use Rattle.std.proofs.Math.Option.{Option, none, some}
-use borrow.Author.Tests.{lt-ltb, le-ltb}
+use borrow.Author.Tests.{lt-ltb, le-ltb, leb-true, leb-false}
 use Rattle.definition.specs.Refusals.{lowest_place_from, lowest_place, accepted, refused, or_refused}
 use Rattle.definition.specs.Readers.{reads_of, lesser, falls, match_verdict}
 use Rattle.graph_laws.specs.FirstChecks.{nothing}
@@ -47,6 +47,13 @@ second_of (false ∷ xs) bs i e = second_of xs bs (suc i) e ∙ ap (λ n. lowest
 
 -- ---- the verdict
 
+pub lesser_is : (a b : ℕ) → min a b ≡ lesser a b
+lesser_is a b = go (leb a b) refl
+  where
+    go : (t : Bool) → leb a b ≡ t → min a b ≡ cond t a b
+    go true e = omega (arith, leb-true a b e)
+    go false e = omega (arith, leb-false a b e)
+
 module _ (upper lower : List ℕ) (size : ℕ) where
   pub many_upper_lem : 1024 < length upper / 2 → refused 1 0 ≡ match_verdict (reads_of upper) (reads_of lower) size
   unfolding match_verdict or_refused lowest_place lowest_place_from
@@ -66,9 +73,17 @@ module _ (upper lower : List ℕ) (size : ℕ) where
       unfolding match_verdict or_refused lowest_place lowest_place_from
       left-to_order = simp (length-reads, le-ltb _ _ a, le-ltb _ _ b, le-ltb _ _ r)
 
-      pub upper_falls_lem : (i : ℕ) → lowest_place (falls (reads_of upper)) ≡ some i → refused 10 i ≡ match_verdict (reads_of upper) (reads_of lower) size
+      upper_falls_lem : (i : ℕ) → lowest_place (falls (reads_of upper)) ≡ some i → refused 10 i ≡ match_verdict (reads_of upper) (reads_of lower) size
       unfolding lowest_place
       upper_falls_lem i e = sym (stop 10 _ accepted i (first_of (falls (reads_of upper)) (falls (reads_of lower)) 0 i e)) ∙ left-to_order
+
+      -- `refuse` has answered for the upper reads
+      pub upper_refused :
+          (k i : ℕ) (o : Option ℕ) → o ≡ lowest_place (falls (reads_of upper)) → refused k i ≡ or_refused 10 o accepted →
+          refused k i ≡ match_verdict (reads_of upper) (reads_of lower) size
+      unfolding or_refused
+      upper_refused k i none e h = cc
+      upper_refused k i (some p) e h = h ∙ upper_falls_lem p (sym e)
 
       module _ (n : lowest_place (falls (reads_of upper)) ≡ none) where
         on : lowest_place_from 0 (falls (reads_of upper) ++ falls (reads_of lower)) ≡ plus (length upper / 2) (lowest_place (falls (reads_of lower)))

@@ -4,70 +4,55 @@
 ghost use Rattle.std.specs.Prelude.{◌≡◌, ◌+◌, ◌/◌, ◌≤◌, ◌<◌, ltb, length};
 ghost use Rattle.definition.specs.Refusals.{lowest_place, accepted};
 ghost use Rattle.definition.specs.Call.{overwrite};
-ghost use Rattle.definition.specs.Readers.{reads_of, matches, lesser, falls, match_verdict, match_numbers, match_call};
+ghost use Rattle.definition.specs.Readers.{reads_of, matches, falls, match_verdict, match_numbers, match_call};
 ghost use Rattle.claims.specs.Matching.{InOrder};
 ghost use Rattle.checks.specs.Verdicts.{place_of, verdict_of};
 ghost use Rattle.readers.specs.Outcomes.{result_of};
 ghost use Rattle.readers.specs.Scan.{read_of, is_passed, Passed, Skipped, is_open, open_tests};
 ghost use Rattle.readers.specs.Turns.{Turnable, Turned};
 
-use checks::{Place, Verdict};
-
-// So many matches were written; or the refusal's number and place.
-#[derive(Clone, Copy)]
-pub enum Answer {
-    Matches(u32),
-    Refused(u32, u32),
-}
+use checks::{Check, Refusal, refuse};
 
 // ---- 1, 2 and 10
 
-fn shorter(a: usize, b: usize) -> usize
-    ensures { result ≡ lesser a b }
-{
-    if a <= b {
-        return a;
-    }
-    b
-}
-
 // The first read whose tick is below that of the one before it.
-fn first_fall(reads: &[u32]) -> Place
+fn first_fall(reads: &[u32]) -> Option<u32>
     requires { length reads.now / 2 ≤ 1024 }
     ensures { place_of result ≡ lowest_place (falls (reads_of reads.now)) }
 {
-    let count = reads.len() / 2;
-    let mut i: usize = 1;
-    while i < count {
+    for i in 1..reads.len() / 2 {
         if reads[2 * i] < reads[2 * i - 2] {
-            return Place::At(i as u32);
+            return Some(i as u32);
         }
-        i += 1;
     }
-    Place::Nowhere
+    None
 }
 
-fn check(upper: &[u32], lower: &[u32], size: usize) -> Verdict
+fn check(upper: &[u32], lower: &[u32], size: usize) -> Result<(), Refusal>
     ensures { verdict_of result ≡ match_verdict (reads_of upper.now) (reads_of lower.now) size }
 {
     let uppers = upper.len() / 2;
     let lowers = lower.len() / 2;
-    if 1024 < uppers {
-        return Verdict::Refused(1, 0);
+    if 1024 < uppers || 1024 < lowers {
+        return Err(Refusal {
+            check: Check::TooMany,
+            place: 0,
+        });
     }
-    if 1024 < lowers {
-        return Verdict::Refused(1, 0);
+    if size < 2 * uppers.min(lowers) {
+        return Err(Refusal {
+            check: Check::BuffersTooSmall,
+            place: 0,
+        });
     }
-    if size < 2 * shorter(uppers, lowers) {
-        return Verdict::Refused(2, 0);
+    refuse(Check::OutOfOrder, first_fall(upper))?;
+    if let Some(j) = first_fall(lower) {
+        return Err(Refusal {
+            check: Check::OutOfOrder,
+            place: uppers as u32 + j,
+        });
     }
-    if let Place::At(i) = first_fall(upper) {
-        return Verdict::Refused(10, i);
-    }
-    if let Place::At(j) = first_fall(lower) {
-        return Verdict::Refused(10, uppers as u32 + j);
-    }
-    Verdict::Accepted
+    Ok(())
 }
 
 // ---- one upper read. A lower read's mark is 0 while it is unused.
@@ -84,10 +69,7 @@ fn is_passed(lower: &[u32], marks: &[u8; 1024], j: usize, tick: u32, window: u32
     requires { (length lower.now / 2 ≤ 1024) × (j < length lower.now / 2) }
     ensures { result ≡ is_passed window (reads_of lower.now) marks.now tick j }
 {
-    if marks[j] == 0 {
-        return is_long_before(lower[2 * j], tick, window);
-    }
-    true
+    marks[j] != 0 || is_long_before(lower[2 * j], tick, window)
 }
 
 // The first lower read from `first` on that is not passed. It never goes back, so that all turns together pass a read once.
@@ -97,14 +79,12 @@ fn skip(lower: &[u32], marks: &[u8; 1024], first: usize, tick: u32, window: u32)
     ensures { Skipped window (reads_of lower.now) marks.now tick result }
 {
     let count = lower.len() / 2;
-    let mut j = first;
-    while j < count {
+    for j in first..count {
         if !is_passed(lower, marks, j, tick, window) {
             return j;
         }
-        j += 1;
     }
-    j
+    count
 }
 
 fn is_open(lower: &[u32], marks: &[u8; 1024], j: usize, tick: u32, marker: u32, window: u32) -> bool
@@ -131,23 +111,20 @@ fn find(
     tick: u32,
     marker: u32,
     window: u32,
-) -> Place
+) -> Option<u32>
     requires lower_len_bound { (length lower.now / 2 ≤ 1024) × (first ≤ length lower.now / 2) × InOrder (reads_of lower.now) }
     requires passed { Passed window (reads_of lower.now) marks.now tick first }
     ensures { place_of result ≡ lowest_place (open_tests window (reads_of lower.now) marks.now (read_of tick marker)) }
 {
-    let count = lower.len() / 2;
-    let mut j = first;
-    while j < count {
+    for j in first..lower.len() / 2 {
         if is_long_before(tick, lower[2 * j], window) {
-            return Place::Nowhere;
+            return None;
         }
         if is_open(lower, marks, j, tick, marker, window) {
-            return Place::At(j as u32);
+            return Some(j as u32);
         }
-        j += 1;
     }
-    Place::Nowhere
+    None
 }
 
 // ---- all upper reads
@@ -168,7 +145,7 @@ fn match_next(
 {
     let tick = upper[2 * i];
     let marker = upper[2 * i + 1];
-    if let Place::At(j) = find(lower, marks, first, tick, marker, window) {
+    if let Some(j) = find(lower, marks, first, tick, marker, window) {
         marks[j as usize] = 1;
         answer[2 * count] = i as u32;
         answer[2 * count + 1] = j;
@@ -182,24 +159,24 @@ fn match_all(upper: &[u32], lower: &[u32], window: u32, answer: &mut [u32]) -> u
     ensures { (result ≡ length (matches window (reads_of upper.now) (reads_of lower.now))) × (answer.new ≡ overwrite (match_numbers (matches window (reads_of upper.now) (reads_of lower.now))) answer.old) }
 {
     let mut marks = [0u8; 1024];
-    let uppers = upper.len() / 2;
     let mut first: usize = 0;
     let mut count: usize = 0;
-    let mut i: usize = 0;
-    while i < uppers {
+    for i in 0..upper.len() / 2 {
         first = skip(lower, &marks, first, upper[2 * i], window);
         count = match_next(upper, lower, window, i, first, count, &mut marks, answer);
-        i += 1;
     }
     count as u32
 }
 
 // The call: each match as two numbers at the front of `answer`, upper index then lower.
-pub fn match_reads(upper: &[u32], lower: &[u32], window: u32, answer: &mut [u32]) -> Answer
+pub fn match_reads(
+    upper: &[u32],
+    lower: &[u32],
+    window: u32,
+    answer: &mut [u32],
+) -> Result<u32, Refusal>
     ensures { result_of result answer.new ≡ match_call upper.now lower.now window answer.old }
 {
-    if let Verdict::Refused(number, place) = check(upper, lower, answer.len()) {
-        return Answer::Refused(number, place);
-    }
-    Answer::Matches(match_all(upper, lower, window, answer))
+    check(upper, lower, answer.len())?;
+    Ok(match_all(upper, lower, window, answer))
 }

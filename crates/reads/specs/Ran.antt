@@ -1,5 +1,6 @@
 -- What one run under reads is given, and what it leaves.
-use Rattle.std.specs.Prelude.{ℕ, ◌≡◌, List, Float, replicate}
+use Rattle.std.specs.Prelude as std
+use Rattle.std.specs.Prelude.{ℕ, ◌≡◌, refl, Ok, Err, List, Float, replicate}
 use Rattle.std.proofs.Math.Path.{sym, ap}
 use Rattle.std.proofs.Common.{◌∙◌}
 use Rattle.std.proofs.Math.ListN.{length, length-replicate}
@@ -12,7 +13,8 @@ use Rattle.definition.specs.Answer.{answer, answered_beliefs, belief_numbers, be
 use Rattle.definition.specs.Call as call
 use Rattle.definition.specs.Call.{Lent, sizes_of, Result, answered, overwrite, answered_by, call}
 use Rattle.graph_laws.specs.CallLengths.{call_accepted}
-use Rattle.zero_lookahead_belief_propagation.specs.declared.call.Outcome.{Outcome}
+use Rattle.checks.specs.declared.refusal.Refusal.{Refusal}
+use Rattle.zero_lookahead_belief_propagation.specs.declared.call.Counts.{Counts}
 use Rattle.zero_lookahead_belief_propagation.specs.Called.{outcome_of, lent_with, result_with}
 use Rattle.reads.specs.declared.Settings.{Settings}
 
@@ -35,14 +37,18 @@ abbrev lent_by : List Float → List ℕ → List ℕ → List Float → Lent
 lent_by wf wn bn bf = lent_with wf wn bn bf (replicate 4096 0) (replicate 1024 zeroᶠ)
 
 -- the beliefs that an outcome counts
-abbrev pub count_in : call.Outcome → ℕ
+abbrev count_in : call.Outcome → ℕ
 count_in (answered n k) = n
 count_in (call.refused_at n p) = 0
+
+is-ok : (o : std.Result Counts Refusal) (n k : ℕ) → outcome_of o ≡ answered n k → std.IsOk o
+is-ok (Ok c) n k e = refl
+is-ok (Err r) n k e = cc
 
 module _
     (s : definition.Settings) (g : ℕ) (es : List Float) (ps : List ℕ) (wf : List Float) (wn bn : List ℕ) (bf : List Float)
     (h : verdict s (room_with (length wf) (length wn) (length bn) (length bf)) (bale_of g es ps) ≡ accepted)
-    (o : Outcome) (l : Lent) (e : result_with o l ≡ call s g es ps (lent_by wf wn bn bf)) where
+    (o : std.Result Counts Refusal) (l : Lent) (e : result_with o l ≡ call s g es ps (lent_by wf wn bn bf)) where
   sizes_are : sizes_of (lent_by wf wn bn bf) ≡ room_with (length wf) (length wn) (length bn) (length bf)
   unfolding sizes_of
   sizes_are =
@@ -58,11 +64,15 @@ module _
   result_is : result_with o l ≡ answered_by (work_needed (bale_of g es ps)) (answer s (bale_of g es ps)) (lent_by wf wn bn bf)
   result_is = e ∙ call_accepted s g es ps (lent_by wf wn bn bf) (ap (λ f. verdict s f (bale_of g es ps)) sizes_are ∙ h)
 
-  pub ran : (r : ℕ) → count_in (outcome_of o) ≡ r → Ran s (bale_of g es ps) wf wn bn bf r l.work_floats l.work_numbers l.belief_numbers l.belief_floats
+  pub has_counts : std.IsOk o
   unfolding answered_by
-  ran r c =
+  has_counts = is-ok o _ _ (ap (λ (x : Result). x.outcome) result_is)
+
+  pub ran : (c : Counts) → o ≡ Ok c → Ran s (bale_of g es ps) wf wn bn bf c.beliefs l.work_floats l.work_numbers l.belief_numbers l.belief_floats
+  unfolding answered_by
+  ran c q =
       record {
-        count = sym c ∙ ap (λ (x : Result). count_in x.outcome) result_is;
+        count = sym (ap (λ (r : std.Result Counts Refusal). count_in (outcome_of r)) q) ∙ ap (λ (x : Result). count_in x.outcome) result_is;
         work_floats = ap (λ (x : Result). x.lent.work_floats) result_is;
         work_numbers = ap (λ (x : Result). x.lent.work_numbers) result_is;
         numbers = ap (λ (x : Result). x.lent.belief_numbers) result_is;

@@ -1,4 +1,4 @@
-// What a call that answers with a report is lent and answers, and the checks that it has of the plain call.
+// What a call that answers with a report is lent, and the checks that it has of the plain call.
 ghost use Rattle.std.specs.Prelude.{◌≡◌, List, ◌/◌, ◌≤◌, Float, length};
 ghost use Rattle.definition.specs.Refusals.{bale_of, verdict};
 ghost use Rattle.definition.specs.Reads.{all_weak};
@@ -8,14 +8,7 @@ ghost use Rattle.reads.specs.Ran.{settings_in};
 ghost use Rattle.reads.specs.Checked.{report_buffers_in, floats_for};
 
 use crate::{Settings, put_reads};
-use checks::{Buffers, Verdict, check};
-
-// How many grades or settings are reported, or a refusal's number and place.
-#[derive(Clone, Copy)]
-pub enum ReportOutcome {
-    Reported(u32),
-    Refused(u32, u32),
-}
+use checks::{Buffers, Refusal, check};
 
 // How many entries each buffer has that the caller lends.
 #[derive(Clone, Copy)]
@@ -43,7 +36,7 @@ pub fn check_weak(
     pairs: &[u32],
     lent: ReportBuffers,
     needed: usize,
-) -> Verdict
+) -> Result<(), Refusal>
     requires { markers ≤ 1024 }
     ensures { (es : List Float) → length es / 2 ≡ markers → verdict_of result ≡ sizes_verdict (report_buffers_in lent) needed (bale_of grades es pairs.now) (verdict (settings_in settings) (ample_for (report_buffers_in lent) (bale_of grades es pairs.now)) (all_weak (bale_of grades es pairs.now))) }
 {

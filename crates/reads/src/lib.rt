@@ -8,11 +8,11 @@ ghost use Rattle.definition.specs.Reads.{above_half};
 ghost use Rattle.reads.specs.Put.{put_read, read_floats};
 ghost use Rattle.reads.specs.Ran.{settings_in, room_with, Ran};
 
-use zero_lookahead_belief_propagation::{Outcome, calibrate_all_subgraphs};
+use zero_lookahead_belief_propagation::calibrate_all_subgraphs;
 
 mod check;
 
-pub use check::{ReportBuffers, ReportOutcome, check_weak};
+pub use check::{ReportBuffers, check_weak};
 
 // What every run of a call is given.
 #[derive(Clone, Copy)]
@@ -45,10 +45,8 @@ pub fn put_reads(evidence: &mut [f32], markers: usize, reads: &[bool])
     requires { (2 * markers ≤ length evidence.old) × (markers ≤ length reads.now) }
     ensures { evidence.new ≡ overwrite (read_floats (take markers reads.now)) evidence.old }
 {
-    let mut m: usize = 0;
-    while m < markers {
-        put_read(evidence, m, reads[m]);
-        m += 1;
+    for (m, strong) in reads[..markers].iter().enumerate() {
+        put_read(evidence, m, *strong);
     }
 }
 
@@ -75,7 +73,7 @@ pub fn run_reads(
 {
     let mut endings = [0; 4096];
     let mut residuals = [0.0; 1024];
-    let outcome = calibrate_all_subgraphs(
+    let answered = calibrate_all_subgraphs(
         settings.alpha,
         settings.beta,
         settings.prior,
@@ -92,8 +90,5 @@ pub fn run_reads(
         &mut endings,
         &mut residuals,
     );
-    match outcome {
-        Outcome::Answered(count, _) => count as usize,
-        Outcome::Refused(_, _) => 0,
-    }
+    answered.unwrap().beliefs as usize
 }

@@ -1,18 +1,17 @@
 -- The entries of a replayed list, and what is counted over them.
-use Rattle.std.specs.Prelude.{ℕ, ◌+◌, ◌*◌, ◌≤◌, ◌<◌, ◌≡◌, refl, Bool, true, false, not, nat_eq, Option, List, [], ◌∷◌, ◌++◌, length, take}
+use Rattle.std.specs.Prelude.{ℕ, ◌+◌, ◌*◌, ◌≤◌, ◌<◌, ◌≡◌, refl, Bool, true, false, not, nat_eq, Option, None, Some, IfSome, Result, Ok, Err, List, [], ◌∷◌, ◌++◌, length, take}
 use Rattle.std.proofs.Common.{arith, sym, ◌∙◌, subst}
+use Rattle.std.specs.Str.{bytes_eq}
 use Rattle.std.specs.Io.KnownBytes.{Consumes}
-use Rattle.streams.specs.Input.{consumes_nothing, consumes-then}
+use Rattle.streams.specs.Input.{consumes-then}
 use Rattle.definition.specs.Lists.{filter, cons_if, how_many}
 use Rattle.definition.specs.Listing.{listing}
 use Rattle.definition.specs.Shift.{shift_listing}
 use Rattle.graph_laws.specs.OneComponent.{filter-length}
-use Rattle.replay.specs.Same.{same_bytes}
 use Rattle.replay.specs.declared.Counts.{Counts}
-use Rattle.replay.specs.declared.Read.{Read}
-use Rattle.replay.specs.declared.Read.TheVariants.{Entry, Broken, End}
-use Rattle.replay.specs.declared.Step.{Step}
-use Rattle.replay.specs.declared.Step.TheVariants.{Counted, Over}
+use Rattle.replay.specs.declared.Head.{Head}
+use Rattle.replay.specs.declared.Entry.{Entry}
+use Rattle.replay.specs.declared.Broken.{Broken}
 
 -- of a shift, or of a bale file
 abbrev pub listing_as : Bool → List ℕ → List ℕ
@@ -26,7 +25,7 @@ pub data ReplayEntry : Type 0 where
 
 -- one that breaks off differs
 abbrev pub differs : ReplayEntry → Bool
-differs (whole shift file text) = not (same_bytes (listing_as shift file) text)
+differs (whole shift file text) = not (bytes_eq (listing_as shift file) text)
 differs broken = true
 
 -- four bytes before n others: three are their number, the lowest first, and the one above them tells a shift
@@ -59,16 +58,17 @@ EntriesIn [] bytes = bytes ≡ []
 EntriesIn (e ∷ es) bytes = (front : List ℕ) × (back : List ℕ) × (bytes ≡ front ++ back) × EntriesIn es front × EntryIn e back
 
 -- a head was read, or what there was of one
-pub record HeadTaken (before after : Option (List ℕ)) (n : ℕ) (shift : Bool) : Type 0 where
+pub record HeadTaken (before after : Option (List ℕ)) (head : Option Head) : Type 0 where
   pub bytes : List ℕ
   pub consumed : Consumes before after bytes
-  pub is : n ≤ 4096 → HeadOf n shift bytes
+  pub is : IfSome head (λ h. HeadOf h.len h.shift bytes)
 
 -- an entry was read to the front of two buffers, or what there was of one
-abbrev pub EntryTaken : Option (List ℕ) → Option (List ℕ) → List ℕ → List ℕ → Read → Type 0
-EntryTaken before after file text (Entry shift n k) = (bytes : List ℕ) × Consumes before after bytes × WholeIn shift (take n file) (take k text) bytes
-EntryTaken before after file text Broken = (bytes : List ℕ) × Consumes before after bytes
-EntryTaken before after file text End = (bytes : List ℕ) × Consumes before after bytes
+abbrev pub EntryTaken : Option (List ℕ) → Option (List ℕ) → List ℕ → List ℕ → Result (Option Entry) Broken → Type 0
+EntryTaken before after file text (Ok (Some e)) =
+    (bytes : List ℕ) × Consumes before after bytes × WholeIn e.shift (take e.file_len file) (take e.text_len text) bytes
+EntryTaken before after file text (Ok None) = (bytes : List ℕ) × Consumes before after bytes
+EntryTaken before after file text (Err b) = (bytes : List ℕ) × Consumes before after bytes
 
 -- an entry more, which differs or does not
 abbrev pub one_more : Bool → Counts → Counts
@@ -100,21 +100,15 @@ pub record OneCounted (before after : Option (List ℕ)) (c d : Counts) : Type 0
   pub coded : EntryIn entry bytes
   pub consumed : Consumes before after bytes
 
-abbrev pub Stepped : Option (List ℕ) → Option (List ℕ) → Counts → Step → Type 0
-Stepped before after c (Counted d) = OneCounted before after c d
-Stepped before after c Over = (bytes : List ℕ) × Consumes before after bytes
+abbrev pub Stepped : Option (List ℕ) → Option (List ℕ) → Counts → Option Counts → Type 0
+Stepped before after c (Some d) = OneCounted before after c d
+Stepped before after c None = (bytes : List ℕ) × Consumes before after bytes
 
 -- there is room for what an entry says it has
-abbrev pub Fits : Read → Type 0
-Fits (Entry shift n k) = (n ≤ 4096) × (k ≤ 4096)
-Fits Broken = Unit {0}
-Fits End = Unit {0}
+abbrev pub Fits : Entry → Type 0
+Fits e = (e.file_len ≤ 4096) × (e.text_len ≤ 4096)
 
 -- ---- laws
-
-pub none_replayed : (known : Option (List ℕ)) → Replayed known known (record { files = 0; differ = 0 })
-none_replayed known =
-    record { entries = []; bytes = []; coded = refl; consumed = consumes_nothing known; files = refl; differ = refl; few = omega arith }
 
 pub differ_few : (a b : Option (List ℕ)) (c : Counts) → Replayed a b c → c.differ ≤ c.files
 differ_few a b c r = omega (arith, r.files, r.differ, filter-length differs r.entries)

@@ -1,7 +1,8 @@
 -- A shift's listing, made bale by bale, against a text: what is left of the two decides.
-use Rattle.std.specs.Prelude.{ℕ, ◌+◌, ◌-◌, ◌^◌, ◌≤◌, ◌<◌, ◌≡◌, refl, Bool, true, false, ◌&&◌, List, [], ◌∷◌, ◌++◌, map, Float, length, take, drop}
+use Rattle.std.specs.Prelude.{ℕ, ◌+◌, ◌-◌, ◌≤◌, ◌≡◌, refl, Bool, true, false, ◌&&◌, List, [], ◌∷◌, ◌++◌, map, eqb, Float, length, take, drop}
 use Rattle.std.proofs.Common.{arith, sym, ap, ◌∙◌, subst, inl, inr, append_assoc, length-append, length-drop, take-append-drop, drop_of_length-le, length-take-le, drop-drop}
-use borrow.Author.Rules.{part_to_end}
+use Rattle.std.specs.Str.{bytes_eq}
+use Rattle.std.specs.List.{starts_with}
 use Rattle.definition.specs.Lists.{concat}
 use Rattle.definition.specs.Listing.{listing}
 use Rattle.definition.specs.Shift.{shift_listing}
@@ -14,8 +15,8 @@ use Rattle.bale_listing.specs.declared.next.Listed.{Listed}
 use Rattle.bale_answer.specs.Taken.{TakenIn}
 use Rattle.bale_answer.specs.Open.{OpenIn, none_open}
 use Rattle.bale_listing.specs.Lent.{RestListed}
-use Rattle.bale_listing.specs.Next.{NextListed, next_fits, next-some, next-within}
-use Rattle.replay.specs.Same.{same_bytes, starts_with, starts_fits, same-joined}
+use Rattle.bale_listing.specs.Next.{NextListed, next_fits, next-within}
+use Rattle.replay.specs.Same.{starts_fits, same-joined}
 
 -- `at` bytes of the file were taken in, of which `bytes` are not listed yet, and the text begins with the listing of the others, `told` bytes: so what is
 -- left of the two is compared as the whole is.
@@ -25,19 +26,13 @@ pub record ToldTo (file text : List ℕ) (at told : ℕ) (i : Input) (ms ps : Li
   pub few : length bytes ≤ at
   pub within : at ≤ length file
   pub fits : told ≤ length text
-  pub left : same_bytes (shift_listing (bytes ++ drop at file)) (drop told text) ≡ same_bytes (shift_listing file) text
+  pub left : bytes_eq (shift_listing (bytes ++ drop at file)) (drop told text) ≡ bytes_eq (shift_listing file) text
 
 pub none_told : {file text : List ℕ} {i : Input} {ms ps : List ℕ} → TakenIn [] i ms ps → ToldTo file text 0 0 i ms ps
 none_told {i = i} {ms = ms} {ps = ps} t =
     record { bytes = []; held = none_open i ms ps t; few = omega arith; within = omega arith; fits = omega arith; left = refl }
 
 -- ---- the next bale
-
--- the bytes that are left
-pub part_room : {file text : List ℕ} {at told : ℕ} {i : Input} {ms ps : List ℕ} → ToldTo file text at told i ms ps → length file ≤ 4096
-    → i.bytes + length (take (length file - at) (drop at file)) < 2 ^ 64
-part_room {file = file} {at = at} t h =
-    omega (arith, t.held.taken.counted, t.few, t.within, h, length-drop at file, ap length (part_to_end file at))
 
 first-listed : (p rest : List ℕ) → EndedBale p → shift_listing (p ++ rest) ≡ listing p ++ shift_listing rest
 unfolding shift_listing
@@ -93,30 +88,27 @@ module _
   pub used_within : at + r.used ≤ length file
   used_within = omega (arith, t.within, next-within t.bytes piece r ms' ps' wf wn out wf' wn' out' n, long)
 
-  pub used_some : at < length file → at < at + r.used
-  used_some h = let s = next-some t.bytes piece r ms' ps' wf wn out wf' wn' out' n (omega (arith, long)) in omega arith
-
   -- what is left is the front, and what is left behind it
   abbrev begun : Bool
-  begun = starts_with (take r.len out') (drop told text)
+  begun = starts_with eqb (drop told text) (take r.len out')
 
   abbrev behind : Bool
-  behind = same_bytes (shift_listing (next.bytes ++ drop (at + r.used) file)) (drop (told + r.len) text)
+  behind = bytes_eq (shift_listing (next.bytes ++ drop (at + r.used) file)) (drop (told + r.len) text)
 
-  parted : same_bytes (shift_listing file) text ≡ begun && behind
+  parted : bytes_eq (shift_listing file) text ≡ begun && behind
   parted =
       let rest : List ℕ = shift_listing (next.bytes ++ drop r.used (drop at file)) in
       let to : drop (length (take r.len out')) (drop told text) ≡ drop (told + r.len) text =
       ap (λ (k : ℕ). drop k (drop told text)) (length-take-le r.len out' fits) ∙ drop-drop r.len told text in
       sym t.left
-      ∙ ap (λ (l : List ℕ). same_bytes l (drop told text)) next.listed
+      ∙ ap (λ (l : List ℕ). bytes_eq l (drop told text)) next.listed
       ∙ same-joined (take r.len out') rest (drop told text)
-      ∙ (λ j. begun && same_bytes (shift_listing (next.bytes ++ drop-drop r.used at file j)) (to j))
+      ∙ (λ j. begun && bytes_eq (shift_listing (next.bytes ++ drop-drop r.used at file j)) (to j))
 
-  pub told_not : starts_with (take r.len out') (drop told text) ≡ false → same_bytes (shift_listing file) text ≡ false
+  pub told_not : starts_with eqb (drop told text) (take r.len out') ≡ false → bytes_eq (shift_listing file) text ≡ false
   told_not h = parted ∙ ap (λ (b : Bool). b && behind) h
 
-  pub told_more : starts_with (take r.len out') (drop told text) ≡ true → ToldTo file text (at + r.used) (told + r.len) r.input ms' ps'
+  pub told_more : starts_with eqb (drop told text) (take r.len out') ≡ true → ToldTo file text (at + r.used) (told + r.len) r.input ms' ps'
   told_more h =
       record {
         bytes = next.bytes;
@@ -124,7 +116,7 @@ module _
         few = omega (arith, next.few, t.few);
         within = used_within;
         fits =
-            omega (arith, t.fits, starts_fits (take r.len out') (drop told text) h, length-take-le r.len out' fits, length-drop told text);
+            omega (arith, t.fits, starts_fits (drop told text) (take r.len out') h, length-take-le r.len out' fits, length-drop told text);
         left = sym (parted ∙ ap (λ (b : Bool). b && behind) h);
       }
 
@@ -140,8 +132,8 @@ module _ (n : ℕ) (wf : List Float) (wn out : List ℕ) (wf' : List Float) (wn'
   rest-is (x ∷ bs) l = front-is (listing (x ∷ bs)) out out' n (l.text, l.long) ∙ sym (append_none (listing (x ∷ bs)))
 
   pub all_told : {file text : List ℕ} {at told : ℕ} {i : Input} {ms ps : List ℕ} (t : ToldTo file text at told i ms ps) → length file ≤ at
-      → RestListed t.bytes n wf wn out wf' wn' out' → same_bytes (take n out') (drop told text) ≡ same_bytes (shift_listing file) text
+      → RestListed t.bytes n wf wn out wf' wn' out' → bytes_eq (take n out') (drop told text) ≡ bytes_eq (shift_listing file) text
   all_told {file = file} {text = text} {at = at} {told = told} t h l =
       let none : t.bytes ++ drop at file ≡ t.bytes = ap (λ (k : List ℕ). t.bytes ++ k) (drop_of_length-le file h) ∙ append_none t.bytes in
-      ap (λ (k : List ℕ). same_bytes k (drop told text)) (rest-is t.bytes l ∙ sym (last-listed t.bytes t.held.no_end) ∙ ap shift_listing (sym none))
+      ap (λ (k : List ℕ). bytes_eq k (drop told text)) (rest-is t.bytes l ∙ sym (last-listed t.bytes t.held.no_end) ∙ ap shift_listing (sym none))
       ∙ t.left

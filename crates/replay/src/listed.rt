@@ -1,42 +1,16 @@
 // Whether a text is a file's listing, byte for byte.
 ghost use Rattle.std.specs.Prelude.{◌≡◌, ◌≤◌, length};
+ghost use Rattle.std.specs.Str.{bytes_eq};
 ghost use Rattle.definition.specs.Listing.{listing};
 ghost use Rattle.definition.specs.Shift.{shift_listing};
-ghost use Rattle.replay.specs.Same.{same_bytes, starts_with};
 
 use bale_answer::{begin, take_piece};
 use bale_listing::{list_bale, list_last, list_next};
 
-// Whether a text begins with these bytes.
-fn begins_with(text: &[u8], bytes: &[u8]) -> bool
-    ensures { result ≡ starts_with bytes.now text.now }
-{
-    if text.len() < bytes.len() {
-        return false;
-    }
-    let mut i = 0;
-    while i < bytes.len() {
-        if text[i] != bytes[i] {
-            return false;
-        }
-        i += 1;
-    }
-    true
-}
-
-fn is_same(one: &[u8], two: &[u8]) -> bool
-    ensures { result ≡ same_bytes one.now two.now }
-{
-    if one.len() != two.len() {
-        return false;
-    }
-    begins_with(two, one)
-}
-
 // Of a bale file.
 pub fn is_listing(file: &[u8], text: &[u8]) -> bool
     requires { length file.now ≤ 4096 }
-    ensures { result ≡ same_bytes (listing file.now) text.now }
+    ensures { result ≡ bytes_eq (listing file.now) text.now }
 {
     let mut markers = [0; 24];
     let mut pairs = [0; 140];
@@ -53,13 +27,13 @@ pub fn is_listing(file: &[u8], text: &[u8]) -> bool
         &mut work_numbers,
         &mut out,
     );
-    is_same(&out[..n], text)
+    &out[..n] == text
 }
 
 // Of a shift, bale by bale.
 pub fn is_shift_listing(file: &[u8], text: &[u8]) -> bool
     requires { length file.now ≤ 4096 }
-    ensures { result ≡ same_bytes (shift_listing file.now) text.now }
+    ensures { result ≡ bytes_eq (shift_listing file.now) text.now }
 {
     let mut markers = [0; 24];
     let mut pairs = [0; 140];
@@ -69,6 +43,7 @@ pub fn is_shift_listing(file: &[u8], text: &[u8]) -> bool
     let mut input = begin();
     let mut at = 0;
     let mut told = 0;
+    // It moves on by what a bale takes up.
     while at < file.len() {
         let next = list_next(
             input,
@@ -80,7 +55,7 @@ pub fn is_shift_listing(file: &[u8], text: &[u8]) -> bool
             &mut out,
         );
         let n = next.len;
-        if !begins_with(&text[told..], &out[..n]) {
+        if !text[told..].starts_with(&out[..n]) {
             return false;
         }
         at += next.used;
@@ -95,5 +70,5 @@ pub fn is_shift_listing(file: &[u8], text: &[u8]) -> bool
         &mut work_numbers,
         &mut out,
     );
-    is_same(&out[..n], &text[told..])
+    out[..n] == text[told..]
 }

@@ -7,8 +7,8 @@
 // system's input no contract says which bytes it gives. So what is only run is that the list is `stdin`, and that it is read to its end.
 #![tactic(auto)]
 
-ghost use Rattle.std.specs.Prelude.{◌≡◌, ◌+◌, ◌*◌, ◌≤◌, ◌<◌, length};
-ghost use Rattle.replay.specs.Same.{same_bytes};
+ghost use Rattle.std.specs.Prelude.{◌≡◌, ◌+◌, ◌*◌, ◌≤◌, ◌<◌, length, IfSome, IfOk};
+ghost use Rattle.std.specs.Str.{bytes_eq};
 ghost use Rattle.replay.specs.Entries.{listing_as, whole, differs, one_more, Fits, HeadTaken, EntryTaken, ReplayedAll, Stepped};
 
 mod listed;
@@ -19,35 +19,30 @@ use streams::read_full;
 
 const MOST_FILES: u64 = 1000000;
 
-// A length that no entry has.
-const NONE: usize = 4097;
-
 #[derive(Clone, Copy)]
 struct Counts {
     files: u64,
     differ: u64,
 }
 
-// What stands before bytes of the list: their length, or NONE where the list ends, and whether they are a shift.
+// What stands before bytes of the list: their length, and whether they are a shift.
 #[derive(Clone, Copy)]
 struct Head {
     len: usize,
     shift: bool,
 }
 
-// Whether a file is a shift, its length and that of the text behind it; or the list breaks off, or is over.
+// Whether a file is a shift, its length and that of the text behind it.
 #[derive(Clone, Copy)]
-enum Read {
-    Entry(bool, usize, usize),
-    Broken,
-    End,
+struct Entry {
+    shift: bool,
+    file_len: usize,
+    text_len: usize,
 }
 
+// The list breaks off in an entry.
 #[derive(Clone, Copy)]
-enum Step {
-    Counted(Counts),
-    Over,
-}
+struct Broken;
 
 // Three bytes, the lowest first.
 fn number_of(a: u8, b: u8, c: u8) -> usize
@@ -56,31 +51,27 @@ fn number_of(a: u8, b: u8, c: u8) -> usize
     a as usize + 256 * (b as usize) + 65536 * (c as usize)
 }
 
-// Three bytes are the length, and the byte above them tells a shift.
-fn read_head<R: io::Read>(from: &mut R) -> Head
-    ensures len { result.len ≤ 4097 }
-    ensures bytes { HeadTaken (R.remaining from.old) (R.remaining from.new) result.len result.shift }
+// Three bytes are the length, and the byte above them tells a shift. There is none where the list ends, and of more than 4,096 bytes.
+fn read_head<R: io::Read>(from: &mut R) -> Option<Head>
+    ensures len { IfSome result (λ head. head.len ≤ 4096) }
+    ensures bytes { HeadTaken (R.remaining from.old) (R.remaining from.new) result }
 {
     let mut four = [0u8; 4];
     let got = read_full(from, &mut four);
     let n = number_of(four[0], four[1], four[2]);
-    let shift = four[3] != 0;
     if got < 4 || 4096 < n {
-        return Head {
-            len: NONE,
-            shift: shift,
-        };
+        return None;
     }
-    Head {
+    Some(Head {
         len: n,
-        shift: shift,
-    }
+        shift: four[3] != 0,
+    })
 }
 
 // Whether this text is the listing of the file, as a bale or as a shift.
 fn is_listed(shift: bool, file: &[u8], text: &[u8]) -> bool
     requires { length file.now ≤ 4096 }
-    ensures { result ≡ same_bytes (listing_as shift file.now) text.now }
+    ensures { result ≡ bytes_eq (listing_as shift file.now) text.now }
 {
     if shift {
         return is_shift_listing(file, text);
@@ -88,30 +79,37 @@ fn is_listed(shift: bool, file: &[u8], text: &[u8]) -> bool
     is_listing(file, text)
 }
 
-// Reads the next file and the text behind it to the front of the two buffers.
-fn read_entry<R: io::Read>(from: &mut R, file: &mut [u8], text: &mut [u8]) -> Read
+// Reads the next file and the text behind it to the front of the two buffers, if the list is not over.
+fn read_entry<R: io::Read>(
+    from: &mut R,
+    file: &mut [u8],
+    text: &mut [u8],
+) -> Result<Option<Entry>, Broken>
     requires { (length file.old ≡ 4096) × (length text.old ≡ 4096) }
-    ensures fits { Fits result }
+    ensures fits { IfOk result (λ read. IfSome read Fits) }
     ensures bytes { EntryTaken (R.remaining from.old) (R.remaining from.new) file.new text.new result }
 {
-    let head = read_head(from);
+    let Some(head) = read_head(from) else {
+        return Ok(None);
+    };
     let n = head.len;
-    if n == NONE {
-        return Read::End;
-    }
     let got = read_full(from, &mut file[..n]);
     let behind = read_head(from);
-    let k = behind.len;
     if got < n {
-        return Read::Broken;
+        return Err(Broken);
     }
-    if k == NONE {
-        return Read::Broken;
-    }
+    let Some(behind) = behind else {
+        return Err(Broken);
+    };
+    let k = behind.len;
     if read_full(from, &mut text[..k]) < k {
-        return Read::Broken;
+        return Err(Broken);
     }
-    Read::Entry(head.shift, n, k)
+    Ok(Some(Entry {
+        shift: head.shift,
+        file_len: n,
+        text_len: k,
+    }))
 }
 
 fn count_one(counts: Counts, differs: bool) -> Counts
@@ -136,23 +134,22 @@ fn count_entry(counts: Counts, shift: bool, file: &[u8], text: &[u8]) -> Counts
     count_one(counts, !same)
 }
 
-// Reads the next entry and counts it. One that breaks off differs.
-fn replay_next<R: io::Read>(from: &mut R, counts: Counts) -> Step
+// Reads the next entry and counts it, if the list is not over. One that breaks off differs.
+fn replay_next<R: io::Read>(from: &mut R, counts: Counts) -> Option<Counts>
     requires { (counts.differ ≤ counts.files) × (counts.files < 1000000) }
     ensures { Stepped (R.remaining from.old) (R.remaining from.new) counts result }
 {
     let mut file = [0; 4096];
     let mut text = [0; 4096];
-    let read = read_entry(from, &mut file, &mut text);
-    match read {
-        Read::Entry(shift, n, k) => Step::Counted(count_entry(
+    match read_entry(from, &mut file, &mut text) {
+        Ok(Some(entry)) => Some(count_entry(
             counts,
-            shift,
-            &file[..n],
-            &text[..k],
+            entry.shift,
+            &file[..entry.file_len],
+            &text[..entry.text_len],
         )),
-        Read::Broken => Step::Counted(count_one(counts, true)),
-        Read::End => Step::Over,
+        Ok(None) => None,
+        Err(_) => Some(count_one(counts, true)),
     }
 }
 
@@ -163,16 +160,12 @@ fn replay_all<R: io::Read>(from: &mut R) -> Counts
         files: 0,
         differ: 0,
     };
+    // What a turn counts is the next turn's, and not an index.
     while counts.files < MOST_FILES {
-        let step = replay_next(from, counts);
-        match step {
-            Step::Counted(next) => {
-                counts = next;
-            }
-            Step::Over => {
-                return counts;
-            }
-        }
+        let Some(next) = replay_next(from, counts) else {
+            break;
+        };
+        counts = next;
     }
     counts
 }

@@ -100,10 +100,6 @@ pub record Adding (ts : List ℕ) (w : ℕ) (ns : List ℕ) (fs : List Float) (u
   pub left : adding w (drop i ns) (drop (2 * i) fs) us ≡ adding w ns fs ts
   pub long : length us ≡ length ts
   pub low : (g : ℕ) → get_or us g 0 ≤ 2 ^ 63 + i * 2000000
-  pub upto : i ≤ length ns
-
-pub adding_starts : {ts : List ℕ} {w : ℕ} {ns : List ℕ} {fs : List Float} → Addable ts w ns fs → Adding ts w ns fs ts 0
-adding_starts a = record { left = refl; long = refl; low = λ g. omega (arith, a.low g); upto = omega arith }
 
 pub adding-ends : {ts : List ℕ} {w : ℕ} {ns : List ℕ} {fs : List Float} {us : List ℕ} {i : ℕ} → Adding ts w ns fs us i → length ns ≤ i → us ≡ adding w ns fs ts
 adding-ends {ts} {w} {ns} {fs} {us} {i} a h = ap (λ (x : List ℕ). adding w x (drop (2 * i) fs) us) (sym (drop_of_length-le ns h)) ∙ a.left
@@ -139,7 +135,6 @@ module _ {ts : List ℕ} {w : ℕ} {ns : List ℕ} {fs : List Float} (p : Addabl
         left = sym (ap (λ (x : List ℕ). adding w x (drop (2 * i) fs) us) numbers-cut ∙ ap (λ (x : List Float). adding w (grade ∷ drop (i + 1) ns) x us) floats_cut) ∙ a.left;
         long = length-set us grade (get_or us grade 0 + share w present) ∙ a.long;
         low = λ g. go g (eqb g grade) refl;
-        upto = omega arith;
       }
     where
       go : (g : ℕ) (b : Bool) → eqb g grade ≡ b → get_or (set us grade (get_or us grade 0 + share w present)) g 0 ≤ 2 ^ 63 + (i + 1) * 2000000

@@ -36,10 +36,8 @@ pub fn add_bale(sums: &mut [u64], grams: u64, numbers: &[u32], floats: &[f32])
     requires { Addable sums.old grams numbers.now floats.now }
     ensures { Added sums.old grams numbers.now floats.now sums.new }
 {
-    let mut i = 0;
-    while i < numbers.len() {
-        let grade = numbers[i] as usize;
+    for (i, &number) in numbers.iter().enumerate() {
+        let grade = number as usize;
         sums[grade] += whole_part(grams, floats[2 * i + 1]);
-        i += 1;
     }
 }

@@ -4,7 +4,6 @@ use Rattle.std.proofs.Common.{sym, ap, subst, ◌∙◌}
 use Rattle.definition.specs.Listing.{listing}
 use Rattle.graph_laws.specs.Bools.{and_left, and_right}
 use Rattle.shift_laws.specs.Ended.{ended_bales, open_bale}
-use Rattle.streams.specs.declared.calls.Answer.{Answer}
 use Rattle.streams.specs.Calls.{AnsweredWithin, counted, ReadMoves}
 use Rattle.streams.specs.Reads.{read_call}
 use Rattle.streams.specs.Input.{Came, never, is_reading, phase_after, after_read, to_read}
@@ -18,7 +17,7 @@ use Rattle.shift.specs.Overs.{went-more}
 
 -- ---- a read more, of which n bytes went over
 
-module _ (x : Came) (got : Answer) (buffer : List ℕ) (n : ℕ) (is : n ≡ counted got (length buffer)) (within : n ≤ length buffer) where
+module _ (x : Came) (got : Option ℕ) (buffer : List ℕ) (n : ℕ) (is : n ≡ counted got (length buffer)) (within : n ≤ length buffer) where
   abbrev next : Came
   next = after_read never (read_call got buffer) x.bytes
 
@@ -55,7 +54,7 @@ module _ (unread left before now : Option (List ℕ)) (t : Shift) (ms ps : List 
 
   -- a read more, which answered `got`
   module _
-      (after : Option (List ℕ)) (got : Answer) (buffer : List ℕ) (u : Shift) (ns qs : List ℕ)
+      (after : Option (List ℕ)) (got : Option ℕ) (buffer : List ℕ) (u : Shift) (ns qs : List ℕ)
       (h : HoldsShift before after (after_read never (read_call got buffer) g.came.bytes) u ns qs) where
     pub going_more :
         (rest : Option (List ℕ)) → length buffer ≡ 65536 → AnsweredWithin 65536 got → ReadMoves left rest got buffer → Going unread rest before after u ns qs

@@ -19,7 +19,7 @@ use crate::input::{Shift, Went, begin, is_going};
 use bale_answer::Input;
 use bale_listing::{list_last, list_next};
 use std::io::{Read, Write};
-use streams::{Answer, Phase, count, hand_over, phase_after, read_some};
+use streams::{Phase, count, hand_over, phase_after, read_some};
 
 // Hands over the listing of each bale that ends in the piece.
 fn list_piece<W: Write>(
@@ -39,6 +39,7 @@ fn list_piece<W: Write>(
     let mut out = [0; 4096];
     let mut held = input;
     let mut at = 0;
+    // It moves on by what a bale takes up.
     while at < piece.len() {
         let next = list_next(
             held,
@@ -69,7 +70,7 @@ fn list_piece<W: Write>(
 fn take_read<W: Write>(
     to: &mut W,
     shift: Shift,
-    got: Answer,
+    got: Option<usize>,
     buffer: &[u8],
     markers: &mut [u32],
     pairs: &mut [u32],

@@ -13,7 +13,7 @@ use Rattle.definition.specs.Lists.{range}
 use Rattle.definition.specs.Run.{neighbour_numbers}
 use Rattle.graph_laws.specs.Lists.{length_count}
 use Rattle.list_laws.specs.Part.{region, length-region}
-use Rattle.list_laws.specs.Put.{put, put_inner, put-region, length-put, region-out}
+use Rattle.list_laws.specs.Put.{put, put_inner, put-region, region-out}
 use Rattle.messages.specs.Layout.{cut, width}
 use Rattle.messages.specs.LayoutOffsets.{offset-end, offset_mono}
 use Rattle.messages.specs.LayoutOrder.{InOrder}
@@ -68,15 +68,6 @@ node_apart firsts offsets n from to long I A =
       to_in = omega (arith, I.in_turn, I.ends, A.to_in);
       apart = ⊎_elim (λ (x : from + L ≤ to). inl (let z : from + o + s ≤ to + o = omega (arith, I.in_turn, I.ends) in z)) (λ x. inr (let z : to + o + s ≤ from + o = omega (arith, I.in_turn, I.ends) in z)) A.apart;
     }
-
-pub node-long : (firsts offsets : List ℕ) (n from to : ℕ) (w w' : List Float) → NodeIn firsts offsets n → Apart from to (get_or offsets (length offsets - 1) 0) (length w)
-    → w' ≡ put w (to + get_or offsets (get_or firsts n 0) 0) (region w (from + get_or offsets (get_or firsts n 0) 0) (get_or offsets (get_or firsts (n + 1) 0) 0 - get_or offsets (get_or firsts n 0) 0)) → length w' ≡ length w
-node-long firsts offsets n from to w w' I A e =
-    let B = node_apart firsts offsets n from to (length w) I A in
-    let o = get_or offsets (get_or firsts n 0) 0 in
-    let s = get_or offsets (get_or firsts (n + 1) 0) 0 - o in
-    let l : length (region w (from + o) s) ≡ s = length-region w (from + o) s B.from_in in
-    ap length e ∙ length-put w (to + o) (region w (from + o) s) (omega (arith, B.to_in))
 
 -- the row at `to` after all that the neighbours of node n hold was copied to it from the row at `from`
 abbrev pub around_copied : MessageGraph → List Float → ℕ → ℕ → ℕ → List Float

@@ -1,11 +1,11 @@
 -- One message written at a direction, into the messages in force and into the new ones.
-use Rattle.std.specs.Prelude.{ℕ, ◌+◌, ◌-◌, ◌/◌, ◌≤◌, ◌<◌, ◌≡◌, refl, List, [], ◌∷◌, Float}
+use Rattle.std.specs.Prelude.{ℕ, ◌+◌, ◌-◌, ◌/◌, ◌≤◌, ◌<◌, ◌≡◌, List, Float}
 use Rattle.std.proofs.Common.{arith, sym, ap, ◌∙◌, inl}
 use Rattle.std.specs.Float.{nan}
-use lib.ListN.{length, get_or, set}
+use lib.ListN.{length, get_or}
 use Rattle.definition.specs.Directions.{messages_in, node_at}
-use Rattle.list_laws.specs.Part.{region, length-region}
-use Rattle.list_laws.specs.Put.{put, put-set, put-region, length-put, region-all}
+use Rattle.list_laws.specs.Part.{region}
+use Rattle.list_laws.specs.Put.{put, put-region, length-put, region-all}
 use Rattle.messages.specs.Layout.{cut, width}
 use Rattle.messages.specs.LayoutOffsets.{TwoLong}
 use Rattle.messages.specs.LayoutWords.{held-pairs}
@@ -27,24 +27,6 @@ pub record Holder (firsts offsets : List ℕ) (n i : ℕ) : Type 0 where
 -- a factor's message has as many entries as its degree says
 pub record Sender (offsets : List ℕ) (d : ℕ) : Type 0 where
   pub degree : get_or offsets (d + 1) 0 - get_or offsets d 0 ≤ 129
-
--- two floats stored
-pub two-put : (w : List Float) (at : ℕ) (x y : Float) → at + 2 ≤ length w → set (set w at x) (at + 1) y ≡ put w at (x ∷ y ∷ [])
-two-put w at x y h =
-    let r = region w at 2 in
-    let l : length r ≡ 2 = length-region w at 2 h in
-    let e : w ≡ put w at r = put-region nan w at 2 h in
-    let a : set w at x ≡ put w at (set r 0 x) =
-    ap (λ (v : List Float). set v at x) e ∙ ap (λ (i : ℕ). set (put w at r) i x) (let z : at ≡ at + 0 = omega arith in z) ∙ put-set nan w at r 0 x (omega arith) (omega arith) in
-    ap (λ (v : List Float). set v (at + 1) y) a
-    ∙ put-set nan w at (set r 0 x) 1 y (omega (arith, lib.ListN.length-set r 0 x)) (omega (arith, lib.ListN.length-set r 0 x))
-    ∙ ap (put w at) (pair r l)
-  where
-    pair : (r : List Float) → length r ≡ 2 → set (set r 0 x) 1 y ≡ x ∷ y ∷ []
-    pair [] l = absurd (let z : ⊥ = omega arith in z)
-    pair (p ∷ []) l = absurd (let z : ⊥ = omega arith in z)
-    pair (p ∷ q ∷ []) l = refl
-    pair (p ∷ q ∷ r ∷ rs) l = absurd (let z : ⊥ = omega arith in z)
 
 -- the same range of the messages in force and of the new ones
 pub along_apart : (offsets : List ℕ) (w : List Float) (d : ℕ) → Along offsets w d

@@ -1,7 +1,6 @@
 // Messages copied from one message set to another: all of them, those that a node holds, those that a node's neighbours hold.
 ghost use Rattle.std.specs.Prelude.{◌≡◌, ℕ, ◌+◌, ◌-◌, ◌<◌, List, length};
 ghost use Rattle.definition.specs.Messages.{residual};
-ghost use Rattle.array_utils.specs.LogTable.{log_table};
 ghost use Rattle.list_laws.specs.Part.{region};
 ghost use Rattle.list_laws.specs.Put.{put};
 ghost use Rattle.steps.specs.StepFloats.{Apart};
@@ -10,6 +9,7 @@ ghost use Rattle.messages.specs.Layout.{cut};
 ghost use Rattle.messages.specs.State.{part_floats};
 ghost use Rattle.steps.specs.StepChanged.{changed_from};
 
+use array_utils::LogTable;
 use messages::residual;
 
 // The nodes whose messages the next step copies into the log (`prev_changed`): all, one, or the neighbours of a tree.
@@ -20,18 +20,6 @@ pub enum Changed {
     Around(u32),
 }
 
-// A range of the floats, copied to another that lies apart from it.
-pub(crate) fn copy_range(w: &mut [f32], from: usize, to: usize, n: usize)
-    requires { Apart from to n (length w.old) }
-    ensures { w.new ≡ put w.old to (region w.old from n) }
-{
-    let mut i = 0;
-    while i < n {
-        w[to + i] = w[from + i];
-        i += 1;
-    }
-}
-
 // All that node n holds in the row at `from`, copied to the row at `to`.
 fn copy_node(w: &mut [f32], firsts: &[u32], offsets: &[u32], from: usize, to: usize, n: usize)
     requires node_in { NodeIn firsts.now offsets.now n }
@@ -40,7 +28,7 @@ fn copy_node(w: &mut [f32], firsts: &[u32], offsets: &[u32], from: usize, to: us
 {
     let begin = offsets[firsts[n] as usize] as usize;
     let end = offsets[firsts[n + 1] as usize] as usize;
-    copy_range(w, from + begin, to + begin, end - begin);
+    w.copy_within(from + begin..from + end, to + begin);
 }
 
 // All that the neighbours of node n hold, copied likewise.
@@ -58,11 +46,9 @@ fn copy_around(
     ensures { (g : Words firsts.now starts.now offsets.now) → w.new ≡ around_copied g.graph w.old from to n }
 {
     let first = firsts[n] as usize;
-    let count = firsts[n + 1] as usize - first;
-    let mut i = 0;
-    while i < count {
-        copy_node(w, firsts, offsets, from, to, starts[first + i] as usize);
-        i += 1;
+    let end = firsts[n + 1] as usize;
+    for start in &starts[first..end] {
+        copy_node(w, firsts, offsets, from, to, *start as usize);
     }
 }
 
@@ -81,7 +67,7 @@ pub fn update_log(w: &mut [f32], firsts: &[u32], starts: &[u32], offsets: &[u32]
 {
     let len = row_len(offsets);
     match changed {
-        Changed::All => copy_range(w, 0, 2 * len, len),
+        Changed::All => w.copy_within(0..len, 2 * len),
         Changed::One(n) => copy_node(w, firsts, offsets, 0, 2 * len, n as usize),
         Changed::Around(n) => copy_around(w, firsts, starts, offsets, 0, 2 * len, n as usize),
     }
@@ -96,8 +82,7 @@ pub fn copy_neighbours(w: &mut [f32], firsts: &[u32], starts: &[u32], offsets: &
 }
 
 // By how much the message in force along direction d differs from the logged one.
-pub fn residual_at(table: &[f32; 1025], w: &[f32], offsets: &[u32], d: usize) -> f32
-    requires table_value { table.now ≡ log_table }
+pub fn residual_at(table: &LogTable, w: &[f32], offsets: &[u32], d: usize) -> f32
     requires along { Along offsets.now w.now d }
     ensures { (firsts starts : List ℕ) (p : PartAt firsts starts offsets.now w.now) → result ≡ residual p.words.graph (cut p.words.graph.directions p.r_in) (cut p.words.graph.directions p.r_log) d }
 {

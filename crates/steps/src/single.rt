@@ -3,7 +3,6 @@ ghost use Rattle.std.specs.Prelude.{◌≡◌, ◌+◌, ◌-◌, ◌≤◌, leng
 ghost use Rattle.std.specs.Float.{nan};
 ghost use Rattle.definition.specs.Vectors.{binary};
 ghost use Rattle.definition.specs.Messages.{out_message_variable, out_message_factor, out_message};
-ghost use Rattle.array_utils.specs.LogTable.{log_table};
 ghost use Rattle.list_laws.specs.Part.{region};
 ghost use Rattle.list_laws.specs.Put.{put};
 ghost use Rattle.node.specs.Rows.{given};
@@ -14,33 +13,24 @@ ghost use Rattle.messages.specs.State.{part_floats};
 ghost use Rattle.steps.specs.StepSingle.{both, Holder, Sender};
 ghost use Rattle.steps.specs.StepUpdate.{SingleReads, SingleAt};
 
-use crate::log::{copy_range, row_len};
+use crate::log::row_len;
 use crate::pending::end_of;
-use array_utils::VariableMessage;
+use array_utils::{LogTable, VariableMessage};
+use factor_graph::kind::NodeKind;
 use messages::{out_message_factor, out_message_variable};
-
-// A message of two.
-fn write_pair(w: &mut [f32], at: usize, m: VariableMessage)
-    requires { at + 2 ≤ length w.old }
-    ensures { w.new ≡ put w.old at (binary m.absent m.present) }
-{
-    w[at] = m.absent;
-    w[at + 1] = m.present;
-}
 
 fn write_both(w: &mut [f32], offsets: &[u32], d: usize, m: VariableMessage)
     requires { Along offsets.now w.old d }
     ensures { w.new ≡ both w.old offsets.now d (binary m.absent m.present) }
 {
     let at = offsets[d] as usize;
-    let new = row_len(offsets) + at;
-    write_pair(w, at, m);
-    write_pair(w, new, m);
+    m.write(w, at);
+    m.write(w, row_len(offsets) + at);
 }
 
 // What variable n sends to its neighbour at position i, along direction d.
 pub fn update_variable(
-    table: &[f32; 1025],
+    table: &LogTable,
     w: &mut [f32],
     firsts: &[u32],
     offsets: &[u32],
@@ -49,7 +39,6 @@ pub fn update_variable(
     d: usize,
     belief: VariableMessage,
 )
-    requires table_value { table.now ≡ log_table }
     requires along { Along offsets.now w.old d × Holder firsts.now offsets.now n i }
     ensures { w.new ≡ both w.old offsets.now d (out_message_variable (binary belief.absent belief.present) (pairs (region w.old (begins_at firsts.now offsets.now n) (ends_at firsts.now offsets.now n - begins_at firsts.now offsets.now n))) i) }
 {
@@ -65,8 +54,8 @@ pub fn keep_message(w: &mut [f32], offsets: &[u32], d: usize)
     ensures { w.new ≡ both w.old offsets.now d (region w.old (get_or offsets.now d 0) (get_or offsets.now (d + 1) 0 - get_or offsets.now d 0)) }
 {
     let at = offsets[d] as usize;
-    let len = offsets[d + 1] as usize - at;
-    copy_range(w, at, row_len(offsets) + at, len);
+    let end = offsets[d + 1] as usize;
+    w.copy_within(at..end, row_len(offsets) + at);
 }
 
 // What a factor makes of its input's message, written from index `at` on.
@@ -99,20 +88,16 @@ pub fn update_factor(
     requires { Along offsets.now w.old d × Along offsets.now w.old e × Sender offsets.now d }
     ensures { w.new ≡ both w.old offsets.now d (out_message_factor (given alpha beta regularised) (get_or offsets.now (d + 1) 0 - get_or offsets.now d 0) (binary (get_or w.old (get_or offsets.now e 0) nan) (get_or w.old (get_or offsets.now e 0 + 1) nan))) }
 {
-    let from = offsets[e] as usize;
-    let message = VariableMessage {
-        absent: w[from],
-        present: w[from + 1],
-    };
+    let message = VariableMessage::read(w, offsets[e] as usize);
     let at = offsets[d] as usize;
     let degree = offsets[d + 1] - offsets[d];
     factor_message(w, at, degree, alpha, beta, regularised, message);
-    copy_range(w, at, row_len(offsets) + at, degree as usize);
+    w.copy_within(at..at + degree as usize, row_len(offsets) + at);
 }
 
 // Along a direction whose start is no tree; the belief is that of its start, where that is a variable.
 pub fn update_single(
-    table: &[f32; 1025],
+    table: &LogTable,
     w: &mut [f32],
     kinds: &[u32],
     firsts: &[u32],
@@ -125,14 +110,13 @@ pub fn update_single(
     beta: f32,
     regularised: bool,
 )
-    requires table_value { table.now ≡ log_table }
     requires single_reads { SingleReads kinds.now firsts.now starts.now outs.now d }
     requires single_at { SingleAt kinds.now firsts.now starts.now outs.now offsets.now w.old d (binary belief.absent belief.present) alpha beta regularised }
     ensures { (p : SingleAt kinds.now firsts.now starts.now outs.now offsets.now w.old d (binary belief.absent belief.present) alpha beta regularised) → w.new ≡ part_floats (put p.r_in (get_or offsets.now d 0) (out_message p.s p.t (cut p.t.directions p.r_in) d)) (put p.r_new (get_or offsets.now d 0) (out_message p.s p.t (cut p.t.directions p.r_in) d)) p.r_log p.r_build p.pending p.rest }
 {
     let n = starts[d] as usize;
     let first = firsts[n] as usize;
-    if kinds[n] != 1 {
+    if kinds[n] != NodeKind::Factor as u32 {
         update_variable(
             table,
             w,
@@ -145,7 +129,7 @@ pub fn update_single(
         );
         return;
     }
-    if kinds[end_of(starts, outs, d)] == 2 {
+    if kinds[end_of(starts, outs, d)] == NodeKind::Input as u32 {
         keep_message(w, offsets, d);
         return;
     }

@@ -1,9 +1,7 @@
 -- What a program takes of its input, read by read.
 use Rattle.std.specs.Prelude.{ℕ, zero, suc, ◌+◌, ◌-◌, ◌≤◌, ◌<◌, ◌≡◌, min, refl, Bool, true, false, cond, Option, None, Some, IfSome, List, [], ◌∷◌, ◌++◌, ltb, length, take}
-use Rattle.std.proofs.Common.{arith, sym, ap, subst, ◌∙◌, true≢false, length-append, length-take, length-take-le, append_assoc, append-nil, ltb-false, lt-ltb, le-ltb}
+use Rattle.std.proofs.Common.{arith, sym, ap, subst, ◌∙◌, true≢false, length-append, length-take, length-take-le, append_assoc, append-nil, ltb-false}
 use Rattle.std.specs.Io.KnownBytes.{Consumes, IsAtEnd}
-use Rattle.streams.specs.declared.calls.Answer.{Answer}
-use Rattle.streams.specs.declared.calls.Answer.TheVariants.{Moved, Failed}
 use Rattle.streams.specs.Calls.{AnsweredWithin, counted, moved, ReadMoves}
 use Rattle.streams.specs.Reads.{ReadCall, read_call, given, ReadsAnswered}
 use Rattle.streams.specs.declared.input.Phase.{Phase}
@@ -16,10 +14,10 @@ is_reading TooLong = false
 is_reading Unreadable = false
 
 -- after a read that gave n bytes, with which there are b: it failed, or found the end, or gave some; over 2^32 bytes are too long
-abbrev pub phase_after : Answer → ℕ → ℕ → Bool → Phase
-phase_after Failed n b enough = Unreadable
-phase_after (Moved k) zero b enough = Whole
-phase_after (Moved k) (suc n) b enough = cond (ltb 4294967296 b) TooLong (cond enough Whole Reading)
+abbrev pub phase_after : Option ℕ → ℕ → ℕ → Bool → Phase
+phase_after None n b enough = Unreadable
+phase_after (Some k) zero b enough = Whole
+phase_after (Some k) (suc n) b enough = cond (ltb 4294967296 b) TooLong (cond enough Whole Reading)
 
 -- the bytes that came, and whether there is more to read
 pub record Came : Type 0 where
@@ -50,7 +48,7 @@ module _ (enough : List ℕ → Bool) where
   -- the last of them moved nothing only if the reader was at its end
   abbrev pub EndFound : List ReadCall → Option (List ℕ) → Type 0
   EndFound [] after = Unit {0}
-  EndFound (r ∷ rs) after = r.answer ≡ Moved 0 → IsAtEnd after
+  EndFound (r ∷ rs) after = r.answer ≡ Some 0 → IsAtEnd after
 
   -- x came by some calls of `read`, each lent 65,536 bytes. Of a reader whose bytes are known before and after them it is what it gave.
   pub record CameBy (before after : Option (List ℕ)) (x : Came) : Type 0 where
@@ -61,37 +59,9 @@ module _ (enough : List ℕ → Bool) where
     pub consumed : Consumes before after x.bytes
     pub ended : EndFound reads after
 
--- ---- the phase, by what is asked in turn
-
-pub phase_failed : (got : Answer) (n b : ℕ) (e : Bool) → got ≡ Failed → Unreadable ≡ phase_after got n b e
-phase_failed got n b e h = rw h refl
-
-module _ (got : Answer) (b : ℕ) (e : Bool) (read : got ≡ Failed → ⊥) where
-  pub phase_end : Whole ≡ phase_after got 0 b e
-  phase_end = at got read
-    where
-      at : (a : Answer) → (a ≡ Failed → ⊥) → Whole ≡ phase_after a 0 b e
-      at Failed h = absurd (h refl)
-      at (Moved k) h = refl
-
-  module _ (n : ℕ) (some : 0 < n) where
-    came : cond (ltb 4294967296 b) TooLong (cond e Whole Reading) ≡ phase_after got n b e
-    came = at got n read some
-      where
-        at : (a : Answer) (m : ℕ) → (a ≡ Failed → ⊥) → 0 < m → cond (ltb 4294967296 b) TooLong (cond e Whole Reading) ≡ phase_after a m b e
-        at Failed m h p = absurd (h refl)
-        at (Moved k) zero h p = absurd (omega (arith, p))
-        at (Moved k) (suc m) h p = refl
-
-    pub phase_over : 4294967296 < b → TooLong ≡ phase_after got n b e
-    phase_over l = rw (lt-ltb _ _ l) at came
-
-    pub phase_few : b ≤ 4294967296 → (t : Bool) → e ≡ t → cond t Whole Reading ≡ phase_after got n b e
-    phase_few l t h = sym (ap (λ (u : Bool). cond u Whole Reading) h) ∙ rw (le-ltb _ _ l) at came
-
 -- ---- what a read gave, where n of the buffer's bytes were counted
 
-module _ (enough : List ℕ → Bool) (got : Answer) (buffer bs : List ℕ) (n : ℕ) (is : n ≡ counted got (length buffer)) where
+module _ (enough : List ℕ → Bool) (got : Option ℕ) (buffer bs : List ℕ) (n : ℕ) (is : n ≡ counted got (length buffer)) where
   abbrev after : Came
   after = after_read enough (read_call got buffer) bs
 
@@ -115,26 +85,26 @@ is_reading_lem TooLong e = absurd (true≢false (sym e))
 is_reading_lem Unreadable e = absurd (true≢false (sym e))
 
 -- a read gave bytes, and all that came are few enough
-some-new : (got : Answer) (n b : ℕ) (e : Bool) → is_reading (phase_after got n b e) ≡ true → 0 < n
-some-new Failed n b e h = absurd (true≢false (sym h))
-some-new (Moved k) zero b e h = absurd (true≢false (sym h))
-some-new (Moved k) (suc n) b e h = omega arith
+some-new : (got : Option ℕ) (n b : ℕ) (e : Bool) → is_reading (phase_after got n b e) ≡ true → 0 < n
+some-new None n b e h = absurd (true≢false (sym h))
+some-new (Some k) zero b e h = absurd (true≢false (sym h))
+some-new (Some k) (suc n) b e h = omega arith
 
-few_came : (got : Answer) (n b : ℕ) (e : Bool) → is_reading (phase_after got n b e) ≡ true → b ≤ 4294967296
-few_came Failed n b e h = absurd (true≢false (sym h))
-few_came (Moved k) zero b e h = absurd (true≢false (sym h))
-few_came (Moved k) (suc n) b e h = go (ltb 4294967296 b) refl
+few_came : (got : Option ℕ) (n b : ℕ) (e : Bool) → is_reading (phase_after got n b e) ≡ true → b ≤ 4294967296
+few_came None n b e h = absurd (true≢false (sym h))
+few_came (Some k) zero b e h = absurd (true≢false (sym h))
+few_came (Some k) (suc n) b e h = go (ltb 4294967296 b) refl
   where
     go : (t : Bool) → ltb 4294967296 b ≡ t → b ≤ 4294967296
     go false f = ltb-false 4294967296 b f
     go true f = absurd (true≢false (sym (subst (λ (t : Bool). is_reading (cond t TooLong (cond e Whole Reading)) ≡ true) f h)))
 
 -- and they are not enough
-not-enough : (got : Answer) (n b : ℕ) (e : Bool) → is_reading (phase_after got n b e) ≡ true → e ≡ false
-not-enough Failed n b e h = absurd (true≢false (sym h))
-not-enough (Moved k) zero b e h = absurd (true≢false (sym h))
-not-enough (Moved k) (suc n) b false h = refl
-not-enough (Moved k) (suc n) b true h = go (ltb 4294967296 b) h
+not-enough : (got : Option ℕ) (n b : ℕ) (e : Bool) → is_reading (phase_after got n b e) ≡ true → e ≡ false
+not-enough None n b e h = absurd (true≢false (sym h))
+not-enough (Some k) zero b e h = absurd (true≢false (sym h))
+not-enough (Some k) (suc n) b false h = refl
+not-enough (Some k) (suc n) b true h = go (ltb 4294967296 b) h
   where
     go : (t : Bool) → is_reading (cond t TooLong Whole) ≡ true → true ≡ false
     go true f = absurd (true≢false (sym f))
@@ -178,7 +148,7 @@ module _ (enough : List ℕ → Bool) where
         wanted (r ∷ rs) h = not-enough r.answer (length (given r)) _ _ h
 
     -- a read more
-    module _ (got : Answer) (buffer : List ℕ) where
+    module _ (got : Option ℕ) (buffer : List ℕ) where
       abbrev new : List ℕ
       new = given (read_call got buffer)
 
@@ -206,13 +176,13 @@ module _ (enough : List ℕ → Bool) where
 -- ---- all of a reader whose bytes are known
 
 -- a read that ended it, where no byte was enough, gave none
-gave_none : (got : Answer) (n b : ℕ) (e : Bool) → phase_after got n b e ≡ Whole → e ≡ false → (k : ℕ) × ((got ≡ Moved k) × (n ≡ 0))
-gave_none Failed n b e h f = cc
-gave_none (Moved k) zero b e h f = (k, (refl, refl))
-gave_none (Moved k) (suc n) b true h f = cc
-gave_none (Moved k) (suc n) b false h f = go (ltb 4294967296 b) h
+gave_none : (got : Option ℕ) (n b : ℕ) (e : Bool) → phase_after got n b e ≡ Whole → e ≡ false → (k : ℕ) × ((got ≡ Some k) × (n ≡ 0))
+gave_none None n b e h f = cc
+gave_none (Some k) zero b e h f = (k, (refl, refl))
+gave_none (Some k) (suc n) b true h f = cc
+gave_none (Some k) (suc n) b false h f = go (ltb 4294967296 b) h
   where
-    go : (t : Bool) → cond t TooLong Reading ≡ Whole → (j : ℕ) × ((Moved k ≡ Moved j) × (suc n ≡ 0))
+    go : (t : Bool) → cond t TooLong Reading ≡ Whole → (j : ℕ) × ((Some k ≡ Some j) × (suc n ≡ 0))
     go true g = cc
     go false g = cc
 
@@ -226,9 +196,9 @@ module _ (enough : List ℕ → Bool) (xs : List ℕ) (after : Option (List ℕ)
   at_end (r ∷ rs) a f w e =
       let (k, (is, none)) = gave_none r.answer (length (given r)) _ _ w e in
       let answered : k ≤ 65536 = subst (AnsweredWithin 65536) is a.0.1 in
-      let few : length (take (min k (length r.buffer)) r.buffer) ≡ 0 = subst (λ (g : Answer). length (moved g r.buffer) ≡ 0) is none in
+      let few : length (take (min k (length r.buffer)) r.buffer) ≡ 0 = subst (λ (g : Option ℕ). length (moved g r.buffer) ≡ 0) is none in
       let zero_moved : k ≡ 0 = omega (arith, few, length-take (min k (length r.buffer)) r.buffer, a.0.0, answered) in
-      f (is ∙ ap (λ (n : ℕ). Moved n) zero_moved)
+      f (is ∙ ap (λ (n : ℕ). Some n) zero_moved)
 
   -- the whole input is all that the reader had
   pub whole_came : (x : Came) → CameBy enough (Some xs) after x → x.phase ≡ Whole → enough x.bytes ≡ false → x.bytes ≡ xs

@@ -1,13 +1,12 @@
 -- A call of `read`: what it answered, and what its buffer held then.
-use Rattle.std.specs.Prelude.{ℕ, ◌≡◌, List, [], ◌∷◌, length}
-use Rattle.streams.specs.declared.calls.Answer.{Answer}
+use Rattle.std.specs.Prelude.{ℕ, ◌≡◌, Option, List, [], ◌∷◌, length}
 use Rattle.streams.specs.Calls.{AnsweredWithin, moved}
 
 pub record ReadCall : Type 0 where
-  pub answer : Answer
+  pub answer : Option ℕ
   pub buffer : List ℕ
 
-abbrev pub read_call : Answer → List ℕ → ReadCall
+abbrev pub read_call : Option ℕ → List ℕ → ReadCall
 read_call got buffer = record { answer = got; buffer = buffer }
 
 -- the bytes that it gave: none where it failed, or where the input has ended

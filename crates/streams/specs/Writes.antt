@@ -8,31 +8,30 @@ use Rattle.std.proofs.lemmas.List.Folds.{concat-append}
 use Rattle.std.proofs.Math.Seq.{take-append-add}
 use borrow.Author.Rules.{part_to_end}
 use Rattle.std.specs.Io.KnownBytes.{Appends}
-use Rattle.streams.specs.declared.calls.Answer.{Answer}
 use Rattle.streams.specs.Calls.{AnsweredWithin, counted, moved, WriteMoves}
 
 -- what is left of the text
-abbrev pub left_of : List ℕ → List Answer → List ℕ
+abbrev pub left_of : List ℕ → List (Option ℕ) → List ℕ
 left_of text [] = text
 left_of text (a ∷ bs) = let left = left_of text bs in drop (counted a (length left)) left
 
 -- each answer is one that `write` may give for what was left
-abbrev pub WritesAnswered : List ℕ → List Answer → Type 0
+abbrev pub WritesAnswered : List ℕ → List (Option ℕ) → Type 0
 WritesAnswered text [] = Unit {0}
 WritesAnswered text (a ∷ bs) = AnsweredWithin (length (left_of text bs)) a × WritesAnswered text bs
 
 -- the last call took nothing of what was left
-abbrev pub Stopped : List ℕ → List Answer → Type 0
+abbrev pub Stopped : List ℕ → List (Option ℕ) → Type 0
 Stopped text [] = ⊥
 Stopped text (a ∷ bs) = counted a (length (left_of text bs)) ≡ 0
 
 -- all went, or the last call took nothing
-abbrev pub AllOrStopped : List ℕ → List Answer → Bool → Type 0
+abbrev pub AllOrStopped : List ℕ → List (Option ℕ) → Bool → Type 0
 AllOrStopped text bs true = left_of text bs ≡ []
 AllOrStopped text bs false = (0 < length (left_of text bs)) × Stopped text bs
 
 pub record HandedOver (text : List ℕ) (all : Bool) : Type 0 where
-  pub answers : List Answer
+  pub answers : List (Option ℕ)
   pub answered : WritesAnswered text answers
   pub ended : AllOrStopped text answers all
 
@@ -49,20 +48,17 @@ pub record Gone (before after : Option (List ℕ)) (text : List ℕ) (all : Bool
 -- ---- a text of which the first `done` bytes went
 
 pub record Handed (text : List ℕ) (done : ℕ) : Type 0 where
-  pub answers : List Answer
+  pub answers : List (Option ℕ)
   pub answered : WritesAnswered text answers
   pub left : left_of text answers ≡ drop done text
   pub within : done ≤ length text
-
-pub handed_nothing : (text : List ℕ) → Handed text 0
-handed_nothing text = record { answers = []; answered = tt; left = refl; within = omega arith }
 
 -- what the next call is given: the slice from `done` on
 abbrev pub rest : List ℕ → ℕ → List ℕ
 rest text done = take (length text - done) (drop done text)
 
 -- it answered a
-module _ (text : List ℕ) (done : ℕ) (h : Handed text done) (a : Answer) where
+module _ (text : List ℕ) (done : ℕ) (h : Handed text done) (a : Option ℕ) where
   left_is : left_of text h.answers ≡ rest text done
   left_is = h.left ∙ sym (part_to_end text done)
 
@@ -86,9 +82,6 @@ module _ (text : List ℕ) (done : ℕ) (h : Handed text done) (a : Answer) wher
         ended = rw left_is (rw (sym e) (omega (arith, long, l), refl));
       }
 
-pub handed_all : (text : List ℕ) (done : ℕ) → Handed text done → length text ≤ done → HandedOver text true
-handed_all text done h l = record { answers = h.answers; answered = h.answered; ended = h.left ∙ drop_of_length-le text l }
-
 -- ---- what a writer holds, where that is known
 
 pub appends_nothing : (known : Option (List ℕ)) → Appends known known []
@@ -103,7 +96,7 @@ appends-then (Some us) (Some vs) (Some ws) xs ys p q = q ∙ ap (λ (l : List �
 
 -- the next call took k bytes of what was left
 pub taken-more :
-    (a b c : Option (List ℕ)) (text : List ℕ) (done k : ℕ) (got : Answer) → Appends a b (take done text) → WriteMoves b c got (rest text done) →
+    (a b c : Option (List ℕ)) (text : List ℕ) (done k : ℕ) (got : Option ℕ) → Appends a b (take done text) → WriteMoves b c got (rest text done) →
     k ≡ counted got (length (rest text done)) → Appends a c (take (done + k) text)
 taken-more a b c text done k got p q e =
     let new : moved got (rest text done) ≡ take k (drop done text) =
@@ -140,7 +133,7 @@ pub handed_empty : (all : Bool) → HandedOver [] all → all ≡ true
 handed_empty true h = refl
 handed_empty false h = absurd (omega (arith, h.ended.0, ap length (none_left h.answers)))
   where
-    none_left : (bs : List Answer) → left_of [] bs ≡ []
+    none_left : (bs : List (Option ℕ)) → left_of [] bs ≡ []
     none_left [] = refl
     none_left (a ∷ bs) = rw (none_left bs) (drop_of_length-le [] {i = counted a 0} (omega arith))
 

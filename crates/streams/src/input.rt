@@ -2,8 +2,6 @@
 ghost use Rattle.std.specs.Prelude.{◌≡◌};
 ghost use Rattle.streams.specs.Input.{is_reading, phase_after};
 
-use crate::calls::Answer;
-
 // The most bytes that a program takes in: input without end would not end otherwise.
 const MOST_BYTES: u64 = 4294967296;
 
@@ -19,19 +17,14 @@ pub enum Phase {
 pub fn is_reading(phase: Phase) -> bool
     ensures { result ≡ is_reading phase }
 {
-    match phase {
-        Phase::Reading => true,
-        Phase::Whole => false,
-        Phase::TooLong => false,
-        Phase::Unreadable => false,
-    }
+    matches!(phase, Phase::Reading)
 }
 
 // After a `read` that answered `got` and gave n bytes, with which there are `bytes`. Where these are enough no further byte counts.
-pub fn phase_after(got: Answer, n: usize, bytes: u64, enough: bool) -> Phase
+pub fn phase_after(got: Option<usize>, n: usize, bytes: u64, enough: bool) -> Phase
     ensures { result ≡ phase_after got n bytes enough }
 {
-    if let Answer::Failed = got {
+    if got.is_none() {
         return Phase::Unreadable;
     }
     if n == 0 {

@@ -6,6 +6,6 @@ mod calls;
 mod input;
 mod output;
 
-pub use calls::{Answer, count, read_full, read_some, write_some};
+pub use calls::{count, read_full, read_some, write_some};
 pub use input::{Phase, is_reading, phase_after};
 pub use output::hand_over;

@@ -10,6 +10,7 @@ pub fn hand_over<W: Write>(to: &mut W, text: &[u8]) -> bool
     ensures bytes { HandedOn (W.contents to.old) (W.contents to.new) text.now result }
 {
     let mut done = 0;
+    // It moves on by what a `write` took.
     while done < text.len() {
         let rest = &text[done..];
         let answer = write_some(to, rest);

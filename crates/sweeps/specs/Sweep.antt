@@ -1,19 +1,17 @@
 -- What the parts of a sweep write, in words and floats alone: a row of floats in force, and a new row behind it, which begins at float l.
 use Prim.Native.Nat.{ℕ, zero, suc, ◌+◌, ◌-◌, ◌*◌, ◌/◌, ◌≤◌, ◌<◌}
-use Rattle.std.proofs.Common.{add-one, arith, sym, ap, ◌∙◌, subst, inl, append_assoc}
-use Rattle.std.specs.Prelude.{◌≡◌, Bool, List, ◌++◌, Float, get_or, take, drop, set}
+use Rattle.std.proofs.Common.{arith, sym, ap, ◌∙◌, inl}
+use Rattle.std.specs.Prelude.{◌≡◌, Bool, List, ◌++◌, Float, get_or, take, drop}
 use Rattle.std.proofs.Math.Path.{refl}
 use Rattle.std.specs.Float.{nan}
 use Rattle.std.proofs.Math.ListN.{length}
-use Rattle.std.proofs.lemmas.List.Edits.{sets-eq}
 use Rattle.definition.specs.Floats.{ln}
 use Rattle.definition.specs.Vectors.{Message, entry, binary, sum_logs_batched}
 use Rattle.definition.specs.Directions.{message_at}
 use Rattle.definition.specs.Messages.{out_message_variable, out_message_factor}
 use Rattle.graph_laws.specs.Lengths.{length-out_message_factor}
 use Rattle.list_laws.specs.Part.{region, get_d_region, length-region}
-use Rattle.list_laws.specs.Put.{put, put-below, put_is, put-part, region-out}
-use Rattle.list_laws.specs.Write.{write, length-write, write_in, write-below, write-above}
+use Rattle.list_laws.specs.Put.{put, put-below, put-part, region-out}
 use Rattle.array_utils.specs.Columns.{absents, presents}
 use Rattle.node.specs.Rows.{given}
 use Rattle.messages.specs.Pairs.{pairs, length_pairs, pair_at_lem, absents-pairs, presents-pairs}
@@ -45,14 +43,6 @@ pub record Pairing (outs offsets : List ℕ) (l from f k room : ℕ) : Type 0 wh
 pub place_is : (outs offsets : List ℕ) (j a b : ℕ) → a ≡ get_or outs j 0 → b ≡ get_or offsets a 0 → b ≡ get_or offsets (get_or outs j 0) 0
 place_is outs offsets j a b e f = f ∙ ap (λ (n : ℕ). get_or offsets n 0) e
 
--- two stores are one message
-pub two-put : (w : List Float) (at : ℕ) (x y : Float) → at + 2 ≤ length w → set (set w at x) (at + 1) y ≡ put w at (binary x y)
-unfolding put
-two-put w at x y h =
-    ap (λ (n : ℕ). set (set w at x) n y) (add-one at)
-    ∙ sets-eq (binary x y) w at h
-    ∙ append_assoc (take at w) (binary x y) (drop (at + 2) w)
-
 module _ {A : Type 0} (d : A) where
   -- what is below all ranges is left
   pub puts-below : (l : List A) (at : ℕ → ℕ) (s : ℕ → List A) (n j : ℕ) → ((k : ℕ) → k < n → at k + length (s k) ≤ length l) → ((k : ℕ) → k < n → j < at k) → get_or (puts l at s n) j d ≡ get_or l j d
@@ -69,9 +59,6 @@ module _ (s p : Message) (outs offsets : List ℕ) (l from f k : ℕ) (w₀ : Li
 
   each_room : (n : ℕ) → n ≤ k → (i : ℕ) → i < n → place_of outs offsets l f i + length (out_from_sums s p (message_at i (pairs row))) ≤ length w₀
   each_room n h i q = omega (arith, out-two s p (message_at i (pairs row)), P.fits i (omega arith))
-
-  pub length_each : (n : ℕ) → n ≤ k → length (each_sent s p outs offsets l from f k w₀ n) ≡ length w₀
-  length_each n h = length-puts w₀ (place_of outs offsets l f) (λ i. out_from_sums s p (message_at i (pairs row))) n (each_room n h)
 
   module _ (w : List Float) (i : ℕ) (h : i < k) (e : w ≡ each_sent s p outs offsets l from f k w₀ i) where
     left : (j : ℕ) → j < 2 * k → get_or w (from + j) nan ≡ get_or row j nan
@@ -120,17 +107,8 @@ module _ (b : Message) (outs offsets : List ℕ) (l f k : ℕ) (w : List Float) 
       not-one (suc zero) i n j = absurd (n refl)
       not-one (suc (suc k)) i n j = omega arith
 
-  pub there-one : k ≡ 1 → get_or outs f 0 < length offsets
-  there-one e = let z = ap (λ (n : ℕ). get_or outs n 0) (let z : f + 0 ≡ f = omega arith in z) in omega (arith, z, P.there 0 (omega arith))
-
-  pub fits_one : k ≡ 1 → l + get_or offsets (get_or outs f 0) 0 + 2 ≤ length w
-  fits_one e = let z = ap (λ (n : ℕ). get_or offsets (get_or outs n 0) 0) (let z : f + 0 ≡ f = omega arith in z) in omega (arith, z, P.fits 0 (omega arith))
-
   -- the row in force as the code lends it, its n floats from a on
   module _ (a n : ℕ) (e : a ≡ get_or offsets f 0) (d : n ≡ 2 * k) where
-    pub pairing_from : Pairing outs offsets l a f k (length w)
-    pairing_from = subst (λ (x : ℕ). Pairing outs offsets l x f k (length w)) (sym e) P
-
     pub lent_few : length (region w a n) / 2 ≤ 1024
     lent_few = omega (arith, length-region w a n (omega (arith, P.held, P.roomy)), P.few)
 
@@ -143,16 +121,6 @@ module _ (b : Message) (outs offsets : List ℕ) (l f k : ℕ) (w : List Float) 
     lent-sent s p r o g h i j z =
         all-sent s p r o (g ∙ ap (λ (x : List Float). sum_logs_batched (absents x)) lent_row) (h ∙ ap (λ (x : List Float). sum_logs_batched (presents x)) lent_row) i j
         (z ∙ ap (λ (x : ℕ). each_sent s p outs offsets l x f k w k) e)
-
--- ---- a range that is copied to a place above it
-pub copied-up : (w : List Float) (from to n : ℕ) → from + n ≤ to → to + n ≤ length w → write w to n (λ i. get_or w (from + i) nan) ≡ put w to (region w from n)
-copied-up w from to n h g =
-    let f : ℕ → Float = λ i. get_or w (from + i) nan in
-    let k : length (region w from n) ≡ n = length-region w from n (omega arith) in
-    put_is nan (write w to n f) w to (region w from n) (omega arith) (length-write w to n f)
-    (λ i q. write_in w to n i f nan (omega arith) (omega arith) ∙ sym (get_d_region w from n i nan (omega arith)))
-    (λ j q. write-below w to n j f nan (omega arith))
-    (λ j q. write-above w to n j f nan (omega arith))
 
 -- ---- a factor
 

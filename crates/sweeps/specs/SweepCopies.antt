@@ -1,13 +1,11 @@
 -- A tree's messages copied into the new row, one for each of its positions.
 use Rattle.std.specs.Prelude.{ℕ, zero, suc, ◌+◌, ◌-◌, ◌≤◌, ◌<◌, ◌≡◌, refl, ◌⊎◌, List, Float, length, get_or, replicate}
-use Rattle.std.proofs.Common.{arith, sym, ap, ◌∙◌, inl, inr}
+use Rattle.std.proofs.Common.{arith, ap, ◌∙◌, inl, inr}
 use Rattle.std.specs.Float.{nan}
-use Rattle.std.proofs.lemmas.List.{length-replicate}
 use Rattle.definition.specs.Floats.{zeroᶠ}
-use Rattle.list_laws.specs.Part.{region, get_d_region, length-region}
-use Rattle.list_laws.specs.Put.{put, put_is}
-use Rattle.list_laws.specs.Write.{write, length-write, write_in, write-below, write-above}
-use Rattle.messages.specs.LayoutPuts.{puts, length-puts, puts-next, region-puts}
+use Rattle.list_laws.specs.Part.{region, length-region}
+use Rattle.list_laws.specs.Put.{put}
+use Rattle.messages.specs.LayoutPuts.{puts, puts-next, region-puts}
 use Rattle.sweeps.specs.Sweep.{place_of}
 
 -- ---- ranges copied to places of their own
@@ -19,9 +17,6 @@ module _ {A : Type 0} (d : A) (w₀ : List A) (at src len : ℕ → ℕ) where
   module _ (n : ℕ) (to : (i : ℕ) → i < n → at i + len i ≤ length w₀) (from : (i : ℕ) → i < n → src i + len i ≤ length w₀) where
     room : (i : ℕ) → i < n → at i + length (region w₀ (src i) (len i)) ≤ length w₀
     room i q = omega (arith, length-region w₀ (src i) (len i) (from i q), to i q)
-
-    pub length-copies : length (copies n) ≡ length w₀
-    length-copies = length-puts w₀ at (λ i. region w₀ (src i) (len i)) n room
 
     pub copies-next : (w : List A) (a b m : ℕ) → w ≡ copies n → a ≡ at n → b ≡ src n → m ≡ len n → src n + len n ≤ length w₀ → ((i : ℕ) → i < n → (src n + len n ≤ at i) ⊎ (at i + len i ≤ src n)) → put w a (region w b m) ≡ copies (n + 1)
     copies-next w a b m e f g h l apart =
@@ -57,10 +52,6 @@ pub record Directed (outs offsets : List ℕ) (l f k room : ℕ) : Type 0 where
   pub roomy : l + l ≤ room
 
 module _ (outs offsets : List ℕ) (l f k : ℕ) (w₀ : List Float) (P : Directed outs offsets l f k (length w₀)) where
-  pub length-kept : (n : ℕ) → n ≤ k → length (kept_sent outs offsets l f w₀ n) ≡ length w₀
-  length-kept n h =
-      length-copies nan w₀ (place_of outs offsets l f) (out_at outs offsets f) (out_long outs offsets f) n (λ i q. omega (arith, P.order i (omega arith), P.fits i (omega arith), P.roomy)) (λ i q. omega (arith, P.order i (omega arith), P.fits i (omega arith), P.roomy))
-
   pub kept_next : (w : List Float) (i d a e : ℕ) → i < k → w ≡ kept_sent outs offsets l f w₀ i → d ≡ get_or outs (f + i) 0 → a ≡ get_or offsets d 0 → e ≡ get_or offsets (d + 1) 0 → put w (l + a) (region w a (e - a)) ≡ kept_sent outs offsets l f w₀ (i + 1)
   kept_next w i d a e h z p q r =
       let x : a ≡ out_at outs offsets f i = q ∙ ap (λ (n : ℕ). get_or offsets n 0) p in
@@ -96,36 +87,15 @@ module _ (outs offsets : List ℕ) (l f k base : ℕ) (w₀ : List Float) (P : S
   from : (i : ℕ) → i < k → held_at offsets f base i + held_long offsets f i ≤ length w₀
   from i q = omega (arith, P.above i q, P.order i q, P.room_there i q)
 
-  pub length-scattered : (n : ℕ) → n ≤ k → length (scattered outs offsets l f base w₀ n) ≡ length w₀
-  length-scattered n h = length-copies nan w₀ (place_of outs offsets l f) (held_at offsets f base) (held_long offsets f) n (λ i q. to i (omega arith)) (λ i q. from i (omega arith))
-
   pub scattered-next : (w : List Float) (i s a e o : ℕ) → i < k → w ≡ scattered outs offsets l f base w₀ i → s ≡ get_or offsets f 0 → a ≡ get_or offsets (f + i) 0 → e ≡ get_or offsets (f + i + 1) 0 → o ≡ get_or offsets (get_or outs (f + i) 0) 0
       → put w (l + o) (region w (base + (a - s)) (e - a)) ≡ scattered outs offsets l f base w₀ (i + 1)
   scattered-next w i s a e o h z p q r x =
       copies-next nan w₀ (place_of outs offsets l f) (held_at offsets f base) (held_long offsets f) i (λ j u. to j (omega arith)) (λ j u. from j (omega arith))
       w (l + o) (base + (a - s)) (e - a) z (omega arith) (omega arith) (omega arith) (from i h) (λ j u. inr (omega (arith, P.fits j (omega arith), P.behind)))
 
--- ---- two loops
-
-pub copied-down : (w : List Float) (from to n : ℕ) → to ≤ from → from + n ≤ length w → write w to n (λ i. get_or w (from + i) nan) ≡ put w to (region w from n)
-copied-down w from to n h g =
-    let f : ℕ → Float = λ i. get_or w (from + i) nan in
-    let k : length (region w from n) ≡ n = length-region w from n g in
-    put_is nan (write w to n f) w to (region w from n) (omega arith) (length-write w to n f)
-    (λ i q. write_in w to n i f nan (omega arith) (omega arith) ∙ sym (get_d_region w from n i nan (omega arith)))
-    (λ j q. write-below w to n j f nan (omega arith))
-    (λ j q. write-above w to n j f nan (omega arith))
+-- ---- zeros
 
 pub zero-at : (n i : ℕ) → i < n → get_or (replicate n zeroᶠ) i nan ≡ zeroᶠ
 zero-at zero i h = absurd (let z : ⊥ = omega arith in z)
 zero-at (suc n) zero h = refl
 zero-at (suc n) (suc i) h = zero-at n i (omega arith)
-
-pub cleared : (w : List Float) (at n : ℕ) → at + n ≤ length w → write w at n (λ i. zeroᶠ) ≡ put w at (replicate n zeroᶠ)
-cleared w at n h =
-    let f : ℕ → Float = λ i. zeroᶠ in
-    let k : length (replicate n zeroᶠ) ≡ n = length-replicate n zeroᶠ in
-    put_is nan (write w at n f) w at (replicate n zeroᶠ) (omega arith) (length-write w at n f)
-    (λ i q. write_in w at n i f nan (omega arith) (omega arith) ∙ sym (zero-at n i (omega arith)))
-    (λ j q. write-below w at n j f nan (omega arith))
-    (λ j q. write-above w at n j f nan (omega arith))

@@ -131,17 +131,7 @@ unfolding needs_rebuild
 never-built tolerance zero l from n w e = refl
 never-built tolerance (suc k) l from n w e = absurd (let z : ⊥ = omega arith in z)
 
-pub built-before :
-    (tolerance : Float) (flag l from n a b : ℕ) (w : List Float) (r : Bool) → (flag ≡ 0 → ⊥) → a ≡ 3 * n + 1 → b ≡ 3 * n + 1 →
-    r ≡ needs_rebuild tolerance (tree_row n (region w from a)) (some (tree_row n (region w (l + l + l + from) b))) → r ≡ needs_build tolerance flag l from n w
-built-before tolerance zero l from n a b w r e f g h = absurd (e refl)
-built-before tolerance (suc k) l from n a b w r e f g h =
-    h ∙ ap (λ (i : ℕ). needs_rebuild tolerance (tree_row n (region w from i)) (some (tree_row n (region w (l + l + l + from) b)))) f ∙ ap (λ (i : ℕ). needs_rebuild tolerance (tree_row n (region w from (3 * n + 1))) (some (tree_row n (region w (l + l + l + from) i)))) g
-
 -- what a tree sends, by whether it is built anew
 abbrev pub tree_sent : Bool → List ℕ → List ℕ → ℕ → ℕ → ℕ → List Float → List Float
 tree_sent true outs offsets l f k w = rebuilt_sent outs offsets l f k w
 tree_sent false outs offsets l f k w = kept_sent outs offsets l f w k
-
-pub needs_at : (tolerance : Float) (flag l a b n : ℕ) (w : List Float) (r c : Bool) → a ≡ b → r ≡ needs_build tolerance flag l a n w → r ≡ c → c ≡ needs_build tolerance flag l b n w
-needs_at tolerance flag l a b n w r c e f g = sym g ∙ f ∙ ap (λ (i : ℕ). needs_build tolerance flag l i n w) e

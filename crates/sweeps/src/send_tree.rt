@@ -1,38 +1,14 @@
 // What a convolution tree sends in a sweep: what it sent before, or what it makes anew of its incoming messages.
-ghost use Rattle.std.specs.Prelude.{◌≡◌, ◌+◌, ◌-◌, ◌*◌, ◌≤◌, length, get_or, replicate};
-ghost use Rattle.definition.specs.Floats.{zeroᶠ};
-ghost use Rattle.array_utils.specs.LogTable.{log_table};
+ghost use Rattle.std.specs.Prelude.{◌≡◌, ◌+◌, ◌-◌, ◌*◌, ◌≤◌, length, get_or};
 ghost use Rattle.list_laws.specs.Part.{region};
 ghost use Rattle.list_laws.specs.Put.{put};
 ghost use Rattle.sweeps.specs.SweepBuild.{Building, built_row};
 ghost use Rattle.sweeps.specs.SweepRebuild.{Rebuilding, rebuilt_sent, needs_build, tree_sent};
 ghost use Rattle.sweeps.specs.SweepCopies.{Directed, kept_sent, Scattering, scattered};
 
-use crate::send::{copy_up, word};
+use array_utils::LogTable;
+use messages::directions::word;
 use messages::needs_rebuild;
-
-// The n floats at `from` are copied to a place below them.
-pub(crate) fn copy_down(w: &mut [f32], from: usize, to: usize, n: usize)
-    requires { (to ≤ from) × (from + n ≤ length w.old) }
-    ensures { w.new ≡ put w.old to (region w.old from n) }
-{
-    let mut i = 0;
-    while i < n {
-        w[to + i] = w[from + i];
-        i += 1;
-    }
-}
-
-pub fn clear_at(w: &mut [f32], at: usize, n: usize)
-    requires { at + n ≤ length w.old }
-    ensures { w.new ≡ put w.old at (replicate n zeroᶠ) }
-{
-    let mut i = 0;
-    while i < n {
-        w[at + i] = 0.0;
-        i += 1;
-    }
-}
 
 // A tree that is not built anew sends along each direction what is in force there.
 pub(crate) fn keep_sent(
@@ -46,13 +22,10 @@ pub(crate) fn keep_sent(
     requires { Directed outs.now offsets.now l first k (length w.old) }
     ensures { w.new ≡ kept_sent outs.now offsets.now l first w.old k }
 {
-    let mut i = 0;
-    while i < k {
+    for i in 0..k {
         let d = word(outs, first + i);
         let at = word(offsets, d);
-        let end = word(offsets, d + 1);
-        copy_up(w, at, l + at, end - at);
-        i += 1;
+        w.copy_within(at..word(offsets, d + 1), l + at);
     }
 }
 
@@ -70,13 +43,11 @@ pub(crate) fn scatter(
     ensures { w.new ≡ scattered outs.now offsets.now l first base w.old k }
 {
     let start = word(offsets, first);
-    let mut i = 0;
-    while i < k {
-        let from = word(offsets, first + i);
-        let end = word(offsets, first + i + 1);
+    for i in 0..k {
+        let from = word(offsets, first + i) - start;
+        let end = word(offsets, first + i + 1) - start;
         let at = word(offsets, word(outs, first + i));
-        copy_down(w, base + (from - start), l + at, end - from);
-        i += 1;
+        w.copy_within(base + from..base + end, l + at);
     }
 }
 
@@ -87,7 +58,7 @@ pub(crate) fn build_tree(w: &mut [f32], from: usize, n: usize, scratch: usize)
 {
     let m = 3 * n + 1;
     let end = scratch + m + convolution_tree::scratch_len(n);
-    copy_up(w, from, scratch, m);
+    w.copy_within(from..from + m, scratch);
     convolution_tree::tree_messages(&mut w[scratch..end], n);
 }
 
@@ -109,13 +80,13 @@ pub(crate) fn rebuild_tree(
     let m = 3 * n + 1;
     build_tree(w, from, n, scratch);
     scatter(w, outs, offsets, l, first, k, scratch);
-    clear_at(w, scratch, m);
-    copy_up(w, from, l + l + l + from, m);
+    w[scratch..scratch + m].fill(0.0);
+    w.copy_within(from..from + m, l + l + l + from);
 }
 
 // Whether the tree over n grades that holds the messages at `from` is built anew: unless it was built before, of what the fourth row says, and little changed.
 pub(crate) fn needs_build(
-    table: &[f32; 1025],
+    table: &LogTable,
     tolerance: f32,
     w: &[f32],
     flag: u32,
@@ -123,7 +94,6 @@ pub(crate) fn needs_build(
     from: usize,
     n: usize,
 ) -> bool
-    requires table_value { table.now ≡ log_table }
     requires n_bound { (from + (3 * n + 1) ≤ l) × (l + l + l + l ≤ length w.now) }
     ensures { result ≡ needs_build tolerance flag l from n w.now }
 {
@@ -139,7 +109,7 @@ pub(crate) fn needs_build(
 
 // A tree with k neighbours, its positions from `first` on. The flag says whether it was built before; whether it was built anew.
 pub fn send_tree(
-    table: &[f32; 1025],
+    table: &LogTable,
     tolerance: f32,
     w: &mut [f32],
     outs: &[u32],
@@ -150,7 +120,6 @@ pub fn send_tree(
     k: usize,
     scratch: usize,
 ) -> bool
-    requires table_value { table.now ≡ log_table }
     requires directed { Directed outs.now offsets.now l first k (length w.old) × Rebuilding outs.now offsets.now l first k scratch w.old }
     ensures value { result ≡ needs_build tolerance flag l (get_or offsets.now first 0) (k - 1) w.old }
     ensures w_after { w.new ≡ tree_sent result outs.now offsets.now l first k w.old }

@@ -7,12 +7,5 @@ pub fn rotate(w: &mut [f32], l: usize)
     requires { l + l + l ≤ length w.old }
     ensures { w.new ≡ rotated l w.old }
 {
-    let mut i = 0;
-    while i < l {
-        let held = w[i];
-        w[i] = w[l + i];
-        w[l + i] = w[l + l + i];
-        w[l + l + i] = held;
-        i += 1;
-    }
+    w[..3 * l].rotate_left(l);
 }

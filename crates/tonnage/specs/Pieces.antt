@@ -1,6 +1,6 @@
 -- A shift's bytes, piece by piece: how what is held of them goes on.
-use Rattle.std.specs.Prelude.{ℕ, ◌+◌, ◌-◌, ◌^◌, ◌≤◌, ◌<◌, ◌≡◌, Bool, true, false, List, [], ◌∷◌, ◌++◌, length, take, drop, replicate}
-use Rattle.std.proofs.Common.{arith, sym, ap, ◌∙◌, subst, true≢false, append_assoc, length-append, length-drop, take-add, take_all, length-take-le}
+use Rattle.std.specs.Prelude.{ℕ, ◌+◌, ◌-◌, ◌≤◌, ◌<◌, ◌≡◌, Bool, true, false, List, [], ◌∷◌, ◌++◌, length, take, drop, replicate}
+use Rattle.std.proofs.Common.{arith, sym, ap, ◌∙◌, subst, true≢false, append_assoc, length-drop, take-add, take_all}
 use borrow.Author.Rules.{part_to_end}
 use Rattle.definition.specs.Shift.{bales}
 use Rattle.theorems.specs.Facts.{ended_bales, open_bale, ended-more}
@@ -114,13 +114,3 @@ module _ (bs piece : List ℕ) (k : ℕ) where
 
     pub piece-within : k + r.used ≤ length piece
     piece-within = omega (arith, w.within, behind-long)
-
-    pub piece_less : 0 < r.used
-    piece_less = w.some (omega (arith, behind-long))
-
-  pub piece-all : (csv : List ℕ) (w : Weighing) (ms ps sums : List ℕ) → length piece ≤ k → Weighs csv before w ms ps sums → Weighs csv (bs ++ piece) w ms ps sums
-  piece-all csv w ms ps sums l h = subst (λ (x : List ℕ). Weighs csv (bs ++ x) w ms ps sums) (take_all k piece l) h
-
-  -- what is behind can be counted
-  pub piece_few : k ≤ length piece → length bs + length piece < 2 ^ 64 → length before + length behind < 2 ^ 64
-  piece_few l f = omega (arith, length-append bs (take k piece), length-take-le k piece l, behind-long)

@@ -1,10 +1,17 @@
 -- The exported function's reply.
-use Rattle.std.specs.Prelude.{ℕ, ◌≤◌, ◌<◌, ◌≡◌, Bool, true, false, List, length}
+use Rattle.std.specs.Prelude.{ℕ, ◌≤◌, ◌<◌, ◌≡◌, Bool, true, false, Result, Ok, Err, is_ok, List, length}
 use Rattle.std.proofs.Math.Path.{refl, ap}
-use Rattle.std.proofs.Common.{sym, ◌∙◌, lt-ltb, le-ltb}
+use Rattle.std.proofs.Common.{sym, ◌∙◌, true≢false, lt-ltb, le-ltb}
 use Rattle.definition.specs.Call.{overwrite}
 use Rattle.definition.specs.Tonnage.{Weighing, weighed, refused_at, tonnage, TonnageResult, set_by, tonnage_by_grade}
+use Rattle.checks.specs.declared.refusal.Refusal.{Refusal}
+use Rattle.checks.specs.Verdicts.{number_of}
+use Rattle.tonnage.specs.Standings.{weighing_with}
 use Rattle.tonnage.specs.declared.Reply.{Reply}
+
+abbrev pub reply_of : Result ℕ Refusal → Reply
+reply_of (Ok k) = record { refusal = 0; place = 0; lines = k }
+reply_of (Err r) = record { refusal = number_of r.check; place = r.place; lines = 0 }
 
 abbrev pub reply_to : Weighing → Reply
 reply_to (weighed k ts) = record { refusal = 0; place = 0; lines = k }
@@ -33,12 +40,15 @@ module _ (csv shift ts : List ℕ) where
     settled = ap (by_length csv shift ts) (le-ltb (length ts) 1024 long) ∙ ap (λ (y : Weighing). set_by y ts) (sym e)
 
   pub reply_weighed :
-      1024 ≤ length ts → (k : ℕ) (us vs : List ℕ) → weighed k us ≡ tonnage csv shift → vs ≡ overwrite us ts →
-      Replies (record { refusal = 0; place = 0; lines = k }) vs (tonnage_by_grade csv shift ts)
+      (r : Result ℕ Refusal) (us vs : List ℕ) → 1024 ≤ length ts → weighing_with r us ≡ tonnage csv shift → is_ok r ≡ true → vs ≡ overwrite us ts →
+      Replies (reply_of r) vs (tonnage_by_grade csv shift ts)
   unfolding set_by
-  reply_weighed long k us vs e f = replies_by _ vs _ (settled long (weighed k us) e) (record { reply = refl; totals = f })
+  reply_weighed (Ok k) us vs long e o f = replies_by _ vs _ (settled long (weighed k us) e) (record { reply = refl; totals = f })
+  reply_weighed (Err r) us vs long e o f = absurd (true≢false (sym o))
 
   pub reply_refused :
-      1024 ≤ length ts → (n k : ℕ) → refused_at n k ≡ tonnage csv shift → Replies (record { refusal = n; place = k; lines = 0 }) ts (tonnage_by_grade csv shift ts)
+      (r : Result ℕ Refusal) (us : List ℕ) → 1024 ≤ length ts → weighing_with r us ≡ tonnage csv shift → is_ok r ≡ false →
+      Replies (reply_of r) ts (tonnage_by_grade csv shift ts)
   unfolding set_by
-  reply_refused long n k e = replies_by _ ts _ (settled long (refused_at n k) e) (record { reply = refl; totals = refl })
+  reply_refused (Ok k) us long e o = absurd (true≢false o)
+  reply_refused (Err r) us long e o = replies_by _ ts _ (settled long (refused_at (number_of r.check) r.place) e) (record { reply = refl; totals = refl })

@@ -1,25 +1,25 @@
 -- What a tally says of the lines and of the bales that have ended.
-use Rattle.std.specs.Prelude.{ℕ, ◌*◌, ◌≤◌, ◌≡◌, Bool, true, false, List, ◌++◌, length, get_or}
+use Rattle.std.specs.Prelude.{ℕ, ◌*◌, ◌≤◌, ◌≡◌, Bool, true, false, Result, Ok, Err, List, ◌++◌, length, get_or}
 use Rattle.definition.specs.Tonnage.{Weighing, weighed, refused_at, weighing, answer_among}
-use Rattle.weights.specs.Reading.{GoodAt, LineAt}
-use Rattle.weights.specs.declared.Row.TheVariants as row
+use Rattle.checks.specs.declared.refusal.Check.TheVariants as check
+use Rattle.checks.specs.declared.refusal.Refusal.{Refusal}
+use Rattle.checks.specs.Verdicts.{number_of}
+use Rattle.weights.specs.Reading.{GoodAt, MalformedAt}
 use Rattle.tonnage.specs.Steps.{weighing_at}
 use Rattle.tonnage.specs.declared.tally.Standing.{Standing}
 use Rattle.tonnage.specs.declared.tally.Standing.TheVariants.{Waiting, Weighed, Refused}
 use Rattle.tonnage.specs.declared.tally.Tally.{Tally}
-use Rattle.tonnage.specs.declared.tally.Outcome.{Outcome}
-use Rattle.tonnage.specs.declared.tally.Outcome.TheVariants as outcome
 
 abbrev pub is_waiting : Standing → Bool
-is_waiting (Waiting b w after) = true
+is_waiting (Waiting l) = true
 is_waiting Weighed = false
-is_waiting (Refused n) = false
+is_waiting (Refused c) = false
 
 -- what the line from a place on says
 abbrev pub StandsAt : ℕ → List ℕ → ℕ → Standing → Type 0
-StandsAt next csv at (Waiting b w after) = GoodAt next csv at b w after
-StandsAt next csv at Weighed = LineAt next csv at row.End
-StandsAt next csv at (Refused n) = (n ≡ 14) × LineAt next csv at row.Malformed
+StandsAt next csv at (Waiting l) = GoodAt next csv at l.bale l.kilograms l.after
+StandsAt next csv at Weighed = length csv ≤ at
+StandsAt next csv at (Refused c) = (c ≡ check.MalformedLine) × MalformedAt next csv at
 
 -- ---- the lines before the next were weighed, and their bales are among the ended ones es
 
@@ -44,9 +44,9 @@ abbrev pub Decided : List ℕ → List (List ℕ) → Weighing → Type 0
 Decided csv es x = (qs : List (List ℕ)) → weighing (answer_among (es ++ qs)) csv ≡ x
 
 abbrev pub Stands : List ℕ → List (List ℕ) → Standing → ℕ → ℕ → List ℕ → Type 0
-Stands csv es (Waiting b w after) lines ended sums = Waits csv es lines ended b w after sums
+Stands csv es (Waiting l) lines ended sums = Waits csv es lines ended l.bale l.kilograms l.after sums
 Stands csv es Weighed lines ended sums = Decided csv es (weighed lines sums)
-Stands csv es (Refused n) lines ended sums = Decided csv es (refused_at n lines)
+Stands csv es (Refused c) lines ended sums = Decided csv es (refused_at (number_of c) lines)
 
 pub record HoldsTally (csv : List ℕ) (es : List (List ℕ)) (t : Tally) (sums : List ℕ) : Type 0 where
   pub stands : Stands csv es t.standing t.lines t.bales sums
@@ -57,6 +57,6 @@ pub record SomeTally (csv : List ℕ) (t : Tally) (sums : List ℕ) : Type 0 whe
   pub holds : HoldsTally csv ended t sums
 
 -- the outcome, with the sums, as the definition has it
-abbrev pub weighing_with : Outcome → List ℕ → Weighing
-weighing_with (outcome.Weighed k) ts = weighed k ts
-weighing_with (outcome.Refused n k) ts = refused_at n k
+abbrev pub weighing_with : Result ℕ Refusal → List ℕ → Weighing
+weighing_with (Ok k) ts = weighed k ts
+weighing_with (Err r) ts = refused_at (number_of r.check) r.place

@@ -8,8 +8,7 @@ use Rattle.definition.specs.Answer.{PartAnswer}
 use Rattle.definition.specs.Tonnage.{lines_of, grams_in, add_each, Answers, Weighing, weighed, refused_at, weighing_from}
 use Rattle.weighing_laws.specs.Lines.{lines_some}
 use Rattle.weighing_laws.specs.Weighings.{line_malformed, line_unanswered, line_good, from_nothing}
-use Rattle.weights.specs.Reading.{LineAt}
-use Rattle.weights.specs.declared.Row.TheVariants.{Good, Malformed}
+use Rattle.weights.specs.Reading.{GoodAt, MalformedAt}
 
 module _ (answer_of : Answers) (csv : List ℕ) where
   -- the lines from place `at` on, of which the first has number k and a bale from `next` on, with the totals ts so far
@@ -21,14 +20,14 @@ module _ (answer_of : Answers) (csv : List ℕ) where
     unfolding weighing_at lines_of
     at-end h = ap (λ (l : List ℕ). weighing_from answer_of k next ts (lines_of l)) (drop_of_length-le csv h) ∙ from_nothing answer_of k next ts
 
-    pub at_malformed : LineAt next csv at Malformed → weighing_at at k next ts ≡ refused_at 14 k
+    pub at_malformed : MalformedAt next csv at → weighing_at at k next ts ≡ refused_at 14 k
     unfolding weighing_at
     at_malformed m =
         let s = lines_some (get_or csv at 0) (drop (suc at) csv) in
-        let e : lines_of (drop at csv) ≡ s.0 ∷ s.1 = ap lines_of (drop-cons csv at 0 m.0) ∙ s.2 in
-        ap (weighing_from answer_of k next ts) e ∙ line_malformed answer_of k next ts s.0 s.1 (m.1 s.0 s.1 e)
+        let e : lines_of (drop at csv) ≡ s.0 ∷ s.1 = ap lines_of (drop-cons csv at 0 m.there) ∙ s.2 in
+        ap (weighing_from answer_of k next ts) e ∙ line_malformed answer_of k next ts s.0 s.1 (m.none_good s.0 s.1 e)
 
-    module _ (b w after : ℕ) (g : LineAt next csv at (Good b w after)) where
+    module _ (b w after : ℕ) (g : GoodAt next csv at b w after) where
       pub at_unanswered : answer_of b ≡ none → weighing_at at k next ts ≡ refused_at 15 k
       unfolding weighing_at
       at_unanswered h = ap (weighing_from answer_of k next ts) g.first ∙ line_unanswered answer_of k next ts g.line (lines_of (drop after csv)) (record { bale = b; kilograms = w }) g.row h

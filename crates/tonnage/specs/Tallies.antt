@@ -17,6 +17,8 @@ use Rattle.weighing_laws.specs.Rows.{rows-read}
 use Rattle.weighing_laws.specs.Totals.{add-length, add_at}
 use Rattle.tonnage_laws.specs.Answers.{grams_of_bales}
 use Rattle.tonnage_laws.specs.Shifts.{among_ended, last_unanswered}
+use Rattle.checks.specs.declared.refusal.Check.{Check}
+use Rattle.checks.specs.Verdicts.{number_of}
 use Rattle.shares.specs.Adding.{Low}
 use Rattle.tonnage.specs.Steps.{weighing_at, at-end, at_malformed, at_unanswered, at_good}
 use Rattle.tonnage.specs.Standings.{is_waiting, StandsAt, Upto, Waits, Decided, Stands}
@@ -27,12 +29,12 @@ use Rattle.tonnage.specs.declared.tally.Standing.TheVariants.{Waiting, Weighed, 
 
 module _ (csv : List ℕ) (es : List (List ℕ)) (at lines next : ℕ) (sums : List ℕ) (u : Upto csv es at lines next sums) where
   pub stands_next : (s : Standing) → StandsAt next csv at s → length es ≤ next → Stands csv es s lines (length es) sums
-  stands_next (Waiting b w after) g h =
-      let r = ((rows-read next g.line (record { bale = b; kilograms = w })).0 g.row).rising in
+  stands_next (Waiting l) g h =
+      let r = ((rows-read next g.line (record { bale = l.bale; kilograms = l.kilograms })).0 g.row).rising in
       record { at = at; next = next; upto = u; line = g; counted = refl; ahead = omega arith }
   stands_next Weighed g h = λ qs. u.same qs ∙ at-end (answer_among (es ++ qs)) csv at lines next sums g
-  stands_next (Refused n) g h =
-      λ qs. u.same qs ∙ at_malformed (answer_among (es ++ qs)) csv at lines next sums g.1 ∙ ap (λ (m : ℕ). refused_at m lines) (sym g.0)
+  stands_next (Refused c) g h =
+      λ qs. u.same qs ∙ at_malformed (answer_among (es ++ qs)) csv at lines next sums g.1 ∙ ap (λ (k : Check). refused_at (number_of k) lines) (sym g.0)
 
 -- before the first
 zeros : (n g : ℕ) → get_or (replicate n zero) g 0 ≡ 0
@@ -71,9 +73,9 @@ module _ (csv : List ℕ) (es fs : List (List ℕ)) where
 
   -- where no line waits they count for nothing
   pub settled_more : (s : Standing) (lines ended : ℕ) (sums : List ℕ) → is_waiting s ≡ false → Stands csv es s lines ended sums → Stands csv (es ++ fs) s lines ended sums
-  settled_more (Waiting b w after) lines ended sums h d = absurd (true≢false h)
+  settled_more (Waiting l) lines ended sums h d = absurd (true≢false h)
   settled_more Weighed lines ended sums h d = decided-more (weighed lines sums) d
-  settled_more (Refused n) lines ended sums h d = decided-more (refused_at n lines) d
+  settled_more (Refused c) lines ended sums h d = decided-more (refused_at (number_of c) lines) d
 
 -- ---- one more, for which a line waits
 

@@ -1,8 +1,7 @@
 // Tonnage by grade, as programs in C and Rust call it: the crate tonnage_c exports the function.
 #![tactic(auto)]
 
-ghost use Rattle.std.specs.Prelude.{◌≡◌, ◌≤◌, length};
-ghost use Rattle.definition.specs.Call.{overwrite};
+ghost use Rattle.std.specs.Prelude.{◌≡◌};
 ghost use Rattle.definition.specs.Tonnage.{tonnage_by_grade};
 ghost use Rattle.tonnage.specs.Reply.{Replies};
 
@@ -10,8 +9,9 @@ mod pieces;
 mod tally;
 
 use crate::pieces::weigh_shift;
+use checks::{Check, Refusal};
 pub use pieces::{Weighing, weigh_piece};
-pub use tally::{Outcome, Standing, Tally, begin, is_waiting, outcome_of};
+pub use tally::{Standing, Tally, begin, is_waiting, outcome_of};
 
 // Refusal 0, and how many lines were weighed; or the refusal's number, and its line.
 #[repr(C)]
@@ -22,45 +22,43 @@ pub struct Reply {
     pub lines: u32,
 }
 
-const GRADES: usize = 1024;
+impl From<Result<u32, Refusal>> for Reply {
+    ghost use Rattle.tonnage.specs.Reply.{reply_of};
 
-// The sums, at the front of the totals.
-fn set_totals(sums: &[u64], totals: &mut [u64])
-    requires { length sums.now ≤ length totals.old }
-    ensures { totals.new ≡ overwrite sums.now totals.old }
-{
-    let mut i = 0;
-    while i < sums.len() {
-        totals[i] = sums[i];
-        i += 1;
+    ghost from_gives = { λ r p. p ≡ reply_of r };
+
+    fn from(weighed: Result<u32, Refusal>) -> Reply {
+        match weighed {
+            Ok(lines) => Reply {
+                refusal: 0,
+                place: 0,
+                lines: lines,
+            },
+            Err(refusal) => Reply {
+                refusal: refusal.check.number(),
+                place: refusal.place,
+                lines: 0,
+            },
+        }
     }
 }
+
+const GRADES: usize = 1024;
 
 // The totals are set, not added to, and a refusal leaves them as they were.
 pub fn tonnage_by_grade(csv: &[u8], shift: &[u8], totals: &mut [u64]) -> Reply
     ensures { Replies result totals.new (tonnage_by_grade csv.now shift.now totals.old) }
 {
     if totals.len() < GRADES {
-        return Reply {
-            refusal: 2,
+        return Reply::from(Err(Refusal {
+            check: Check::BuffersTooSmall,
             place: 0,
-            lines: 0,
-        };
+        }));
     }
     let mut sums = [0; GRADES];
-    match weigh_shift(csv, shift, &mut sums) {
-        Outcome::Weighed(lines) => {
-            set_totals(&sums, totals);
-            Reply {
-                refusal: 0,
-                place: 0,
-                lines: lines,
-            }
-        }
-        Outcome::Refused(number, line) => Reply {
-            refusal: number,
-            place: line,
-            lines: 0,
-        },
+    let weighed = weigh_shift(csv, shift, &mut sums);
+    if weighed.is_ok() {
+        totals[..GRADES].copy_from_slice(&sums);
     }
+    Reply::from(weighed)
 }

@@ -4,8 +4,9 @@ ghost use Rattle.definition.specs.Tonnage.{tonnage};
 ghost use Rattle.tonnage.specs.Standings.{weighing_with};
 ghost use Rattle.tonnage.specs.Weighed.{Weighs, SomeWeighs, WeighedTo};
 
-use crate::tally::{Outcome, Tally, begin, is_waiting, outcome_of, weigh_bale};
+use crate::tally::{Tally, begin, is_waiting, outcome_of, weigh_bale};
 use bale_answer::{Input, take_bale};
+use checks::Refusal;
 
 // The tally of the bales that have ended, and what was taken in of the one that has not.
 #[derive(Clone, Copy)]
@@ -95,6 +96,7 @@ pub fn weigh_piece(
 {
     let mut held = weighing;
     let mut at = 0;
+    // It moves on by what a turn took in.
     while at < piece.len() {
         let next = weigh_next(
             held,
@@ -113,7 +115,7 @@ pub fn weigh_piece(
 }
 
 // A whole shift. The sums begin with 0 and are the totals, unless it is refused.
-pub(crate) fn weigh_shift(csv: &[u8], shift: &[u8], sums: &mut [u64]) -> Outcome
+pub(crate) fn weigh_shift(csv: &[u8], shift: &[u8], sums: &mut [u64]) -> Result<u32, Refusal>
     requires { sums.old ≡ replicate 1024 0 }
     ensures { weighing_with result sums.new ≡ tonnage csv.now shift.now }
 {

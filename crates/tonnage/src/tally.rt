@@ -7,19 +7,20 @@ ghost use Rattle.shares.specs.Adding.{Low};
 ghost use Rattle.tonnage.specs.Answering.{AnswerAdded};
 ghost use Rattle.tonnage.specs.Standings.{is_waiting, StandsAt, HoldsTally, SomeTally, weighing_with};
 
-use bale_answer::{FileOutcome, answer_bale};
+use bale_answer::answer_bale;
 use bale_file::Decoder;
+use checks::{Check, Refusal};
 use shares::add_bale;
-use weights::{Row, read_line};
+use weights::{Line, read_line};
 
 #[derive(Clone, Copy)]
 pub enum Standing {
-    // The next line's bale and kilograms, and the place behind it.
-    Waiting(u32, u32, usize),
+    // The next line waits for its bale.
+    Waiting(Line),
     // No line is left.
     Weighed,
-    // The number of the refusal at the next line.
-    Refused(u32),
+    // The next line is refused.
+    Refused(Check),
 }
 
 #[derive(Clone, Copy)]
@@ -36,9 +37,9 @@ fn standing_at(csv: &[u8], at: usize, next: u32) -> Standing
     ensures { StandsAt next csv.now at result }
 {
     match read_line(csv, at, next) {
-        Row::Good(bale, kilograms, after) => Standing::Waiting(bale, kilograms, after),
-        Row::End => Standing::Weighed,
-        Row::Malformed => Standing::Refused(14),
+        Ok(Some(line)) => Standing::Waiting(line),
+        Ok(None) => Standing::Weighed,
+        Err(_) => Standing::Refused(Check::MalformedLine),
     }
 }
 
@@ -58,12 +59,7 @@ pub fn begin(csv: &[u8]) -> Tally
 pub fn is_waiting(tally: Tally) -> bool
     ensures { result ≡ is_waiting tally.standing }
 {
-    let standing = tally.standing;
-    match standing {
-        Standing::Waiting(_, _, _) => true,
-        Standing::Weighed => false,
-        Standing::Refused(_) => false,
-    }
+    matches!(tally.standing, Standing::Waiting(_))
 }
 
 // A bale's answer, weighed and added. Whether it has one.
@@ -85,7 +81,7 @@ fn add_answer(
     let mut floats = [0.0; 48];
     let mut endings = [0; 96];
     let mut residuals = [0.0; 24];
-    let outcome = answer_bale(
+    let answered = answer_bale(
         decoder,
         markers,
         pairs,
@@ -96,10 +92,10 @@ fn add_answer(
         &mut endings,
         &mut residuals,
     );
-    let FileOutcome::Answered(beliefs, _) = outcome else {
+    let Ok(counts) = answered else {
         return false;
     };
-    let n = beliefs as usize;
+    let n = counts.beliefs as usize;
     add_bale(
         sums,
         1000 * (kilograms as u64),
@@ -127,9 +123,9 @@ pub(crate) fn weigh_bale(
 {
     let standing = tally.standing;
     match standing {
-        Standing::Waiting(bale, kilograms, after) => {
+        Standing::Waiting(line) => {
             let ended = tally.bales + 1;
-            if tally.bales < bale {
+            if tally.bales < line.bale {
                 return Tally {
                     standing: standing,
                     lines: tally.lines,
@@ -142,43 +138,39 @@ pub(crate) fn weigh_bale(
                 pairs,
                 work_floats,
                 work_numbers,
-                kilograms,
+                line.kilograms,
                 sums,
             );
             if !answered {
                 return Tally {
-                    standing: Standing::Refused(15),
+                    standing: Standing::Refused(Check::MissingBale),
                     lines: tally.lines,
                     bales: ended,
                 };
             }
-            let next = standing_at(csv, after, bale + 1);
+            let next = standing_at(csv, line.after, line.bale + 1);
             Tally {
                 standing: next,
                 lines: tally.lines + 1,
                 bales: ended,
             }
         }
-        Standing::Weighed => tally,
-        Standing::Refused(_) => tally,
+        Standing::Weighed | Standing::Refused(_) => tally,
     }
 }
 
-// So many lines were weighed; or the refusal's number and line.
-#[derive(Clone, Copy)]
-pub enum Outcome {
-    Weighed(u32),
-    Refused(u32, u32),
-}
-
-// At the end of the shift: a bale that did not end, or is not there, answers no line that waits for it.
-pub fn outcome_of(tally: Tally) -> Outcome
+// At the end of the shift, how many lines were weighed, or the line that is refused. A bale that did not end, or is not there, answers no line that waits
+// for it.
+pub fn outcome_of(tally: Tally) -> Result<u32, Refusal>
     ensures { (csv shift sums : List ℕ) → HoldsTally csv (ended_bales shift) tally sums → weighing_with result sums ≡ tonnage csv shift }
 {
-    let standing = tally.standing;
-    match standing {
-        Standing::Waiting(_, _, _) => Outcome::Refused(15, tally.lines),
-        Standing::Weighed => Outcome::Weighed(tally.lines),
-        Standing::Refused(number) => Outcome::Refused(number, tally.lines),
-    }
+    let check = match tally.standing {
+        Standing::Weighed => return Ok(tally.lines),
+        Standing::Waiting(_) => Check::MissingBale,
+        Standing::Refused(check) => check,
+    };
+    Err(Refusal {
+        check: check,
+        place: tally.lines,
+    })
 }

@@ -1,5 +1,5 @@
 -- The call as the code has it, and the definition's.
-use Rattle.std.specs.Prelude.{ℕ, ◌+◌, ◌*◌, ◌/◌, ◌≤◌, ◌<◌, ◌≡◌, Bool, false, List, ◌++◌, ltb, Float, take, drop, replicate}
+use Rattle.std.specs.Prelude.{ℕ, ◌+◌, ◌*◌, ◌/◌, ◌≤◌, ◌<◌, ◌≡◌, Bool, false, Ok, Err, List, ◌++◌, ltb, Float, take, drop, replicate}
 use Rattle.std.proofs.Common.{arith, ◌∙◌, length-take-le}
 use Rattle.std.proofs.Math.Path.{sym, ap}
 use Rattle.std.proofs.Math.ListN.{length, length-replicate}
@@ -18,13 +18,14 @@ use Rattle.graph_laws.specs.Overwriting.{over-length, over_again}
 use Rattle.report_laws.specs.Under.{all-weak_markers}
 use Rattle.trial_laws.specs.Accepted.{InThousands, Accepted, accepted_call, under_accepted}
 use Rattle.trial_laws.specs.Call.{call_same}
+use Rattle.checks.specs.declared.refusal.Refusal.{Refusal}
+use Rattle.checks.specs.Verdicts.{number_of}
 use Rattle.checks.specs.Slices.{length_markers, length_pairs}
 use Rattle.draws.specs.Present.{Known}
 use Rattle.reads.specs.Put.{read_floats}
 use Rattle.reads.specs.Ran.{room_with}
 use Rattle.reads.specs.Room.{run_accepted}
 use Rattle.reads.specs.Reported.{report_result_with}
-use Rattle.reads.specs.declared.check.ReportOutcome.TheVariants.{Reported, Refused}
 use Rattle.trials.specs.Bale.{weak_bale, weak_markers, Tryable}
 use Rattle.trials.specs.Each.{trials_at, TryableEach, length-settings}
 
@@ -151,12 +152,14 @@ module _ (ns : List ℕ) (x n : ℕ) (r : Bool) (e : Float) (k g : ℕ) (es : Li
   unfolding bale_of
   call-is = call_same (trial_settings_of ns) x n r e k g (pairs_of ps) (markers_of es) (markers_of (read_floats (replicate m false))) (length_markers es ∙ sym (weak_markers g m ps)) l
 
-  pub call_refused : (q p : ℕ) → refused q p ≡ trial_verdict (report_sizes l) (trials_of ns x n r e k g es ps) → report_result_with (Refused q p) l ≡ trial_call (trials_of ns x n r e k g es ps) l
+  pub call_refused :
+      (q : Refusal) → refused (number_of q.check) q.place ≡ trial_verdict (report_sizes l) (trials_of ns x n r e k g es ps) →
+      report_result_with (Err q) l ≡ trial_call (trials_of ns x n r e k g es ps) l
   unfolding trial_call report_result
-  call_refused q p v = let c = trials_of ns x n r e k g es ps in ap (λ (w : Verdict). report_result w c.graph (length c.settings) (trial_counts c) l) v
+  call_refused q v = let c = trials_of ns x n r e k g es ps in ap (λ (w : Verdict). report_result w c.graph (length c.settings) (trial_counts c) l) v
 
   pub call_tried : (l' : ReportLent) (q : ℕ) → q ≡ length ns / 3 → Triable ns x n r e k g (length es / 2) ps l → Tried ns x n r e k g (length es / 2) ps l l' →
-      report_result_with (Reported q) l' ≡ trial_call (trials_of ns x n r e k g es ps) l
+      report_result_with (Ok q) l' ≡ trial_call (trials_of ns x n r e k g es ps) l
   unfolding trial_call report_result
   call_tried l' q z h T =
       let c = trials_at ns x n r e k g m ps in

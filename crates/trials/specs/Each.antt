@@ -90,9 +90,6 @@ module _ (ns : List ℕ) (x n : ℕ) (regularised : Bool) (tolerance : Float) (l
     pub long : length r ≡ length r₀
     pub front : r ≡ overwrite (concat (map (setting_counts (trials_at ns x n regularised tolerance limit g m ps)) (take i (trial_settings_of ns)))) r₀
 
-  pub each_none : (r₀ : List ℕ) → EachTo r₀ 0 r₀
-  each_none r₀ = record { long = refl; front = refl }
-
   pub each_next :
       (r₀ : List ℕ) (i : ℕ) (r : List ℕ) (s : Settings) (q : Trial) → i < length ns / 3 → 2 * (length ns / 3) ≤ length r₀ → EachTo r₀ i r →
       s ≡ under_setting (numbers_at ns i) regularised tolerance limit → TriedSetting s (numbers_at ns i) g m ps n x q →

@@ -6,8 +6,8 @@ ghost use Rattle.trials.specs.Called.{Triable, Tried};
 
 use crate::check::check_trials;
 use crate::trial::try_each;
-use checks::Verdict;
-use reads::{ReportBuffers, ReportOutcome};
+use checks::Refusal;
+use reads::ReportBuffers;
 use zero_lookahead_belief_propagation::clear_work;
 
 // An accepted call. The work is cleared first, for there may be no setting or no bale.
@@ -61,7 +61,7 @@ pub fn try_settings(
     work_floats: &mut [f32],
     work_numbers: &mut [u32],
     report: &mut [u32],
-) -> ReportOutcome
+) -> Result<u32, Refusal>
     ensures { report_result_with result (report_lent_with work_floats.new work_numbers.new report.new) ≡ trial_call (trials_of settings.now seed bales regularised tolerance loop_limit grades evidence.now pairs.now) (report_lent_with work_floats.old work_numbers.old report.old) }
 {
     let markers = evidence.len() / 2;
@@ -70,7 +70,7 @@ pub fn try_settings(
         work_numbers: work_numbers.len(),
         report: report.len(),
     };
-    let verdict = check_trials(
+    check_trials(
         settings,
         seed,
         bales,
@@ -81,10 +81,7 @@ pub fn try_settings(
         markers,
         pairs,
         lent,
-    );
-    if let Verdict::Refused(number, place) = verdict {
-        return ReportOutcome::Refused(number, place);
-    }
+    )?;
     try_accepted(
         settings,
         seed,
@@ -99,5 +96,5 @@ pub fn try_settings(
         work_numbers,
         report,
     );
-    ReportOutcome::Reported((settings.len() / 3) as u32)
+    Ok((settings.len() / 3) as u32)
 }

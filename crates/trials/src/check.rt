@@ -6,58 +6,48 @@ ghost use Rattle.checks.specs.Verdicts.{place_of, verdict_of};
 ghost use Rattle.reads.specs.Checked.{report_buffers_in};
 ghost use Rattle.trials.specs.Checked.{with_three};
 
-use checks::{Place, Verdict};
+use checks::{Check, Refusal, refuse};
 use reads::{ReportBuffers, Settings, check_weak};
 
 // 17
 fn has_many(settings: &[u32], bales: u32) -> bool
     ensures { result ≡ (ltb 64 (length (trial_settings_of settings.now)) || ltb 1000 bales) }
 {
-    if 64 < settings.len() / 3 {
-        return true;
-    }
-    1000 < bales
+    64 < settings.len() / 3 || 1000 < bales
 }
 
 // Whole numbers are compared: a large one would round on its way to a float.
 fn is_outside(number: u32) -> bool
     ensures { result ≡ outside_range number }
 {
-    if 1 <= number && number <= 1023 {
-        return false;
-    }
-    true
+    !(1..=1023).contains(&number)
 }
 
 // 3: a number's place in the slice is three times its setting's index and its place there.
-fn check_settings(settings: &[u32]) -> Place
+fn check_settings(settings: &[u32]) -> Option<u32>
     requires { length (trial_settings_of settings.now) ≤ 64 }
     ensures { place_of result ≡ lowest_place (setting_tests (trial_settings_of settings.now)) }
 {
     let count = 3 * (settings.len() / 3);
-    let mut i: usize = 0;
-    while i < count {
-        if is_outside(settings[i]) {
-            return Place::At(i as u32);
+    for (i, number) in settings[..count].iter().enumerate() {
+        if is_outside(*number) {
+            return Some(i as u32);
         }
-        i += 1;
     }
-    Place::Nowhere
+    None
 }
 
 // 3 behind 1 and 2, and ahead of all else.
-fn with_settings(rest: Verdict, settings: &[u32]) -> Verdict
+fn with_settings(rest: Result<(), Refusal>, settings: &[u32]) -> Result<(), Refusal>
     requires { length (trial_settings_of settings.now) ≤ 64 }
     ensures { verdict_of result ≡ with_three (lowest_place (setting_tests (trial_settings_of settings.now))) (verdict_of rest) }
 {
-    if let Verdict::Refused(number, place) = rest {
-        if number < 3 {
-            return Verdict::Refused(number, place);
+    if let Err(refusal) = rest {
+        if refusal.check.number() < 3 {
+            return Err(refusal);
         }
     }
-    if let Place::At(place) = check_settings(settings) {
-        return Verdict::Refused(3, place);
-    }
+    refuse(Check::Probability, check_settings(settings))?;
     rest
 }
 
@@ -73,17 +63,26 @@ pub(crate) fn check_trials(
     markers: usize,
     pairs: &[u32],
     lent: ReportBuffers,
-) -> Verdict
+) -> Result<(), Refusal>
     ensures { (es : List Float) → length es / 2 ≡ markers → verdict_of result ≡ trial_verdict (report_buffers_in lent) (trials_of settings.now seed bales regularised tolerance loop_limit grades es pairs.now) }
 {
     if seed == 0 {
-        return Verdict::Refused(16, 0);
+        return Err(Refusal {
+            check: Check::ZeroSeed,
+            place: 0,
+        });
     }
     if has_many(settings, bales) {
-        return Verdict::Refused(17, 0);
+        return Err(Refusal {
+            check: Check::TooManyTrials,
+            place: 0,
+        });
     }
     if 1024 < markers {
-        return Verdict::Refused(1, 0);
+        return Err(Refusal {
+            check: Check::TooMany,
+            place: 0,
+        });
     }
     let halves = Settings {
         alpha: 0.5,

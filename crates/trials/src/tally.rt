@@ -53,11 +53,9 @@ pub(crate) fn count_beliefs(
     ensures { (result.agreed ≡ before.agreed + how_many agrees (judged_to count numbers.now floats.now drawn.now)) × (result.differed ≡ before.differed + how_many differs (judged_to count numbers.now floats.now drawn.now)) }
 {
     let mut tally = before;
-    let mut i: usize = 0;
-    while i < count {
+    for i in 0..count {
         let g = numbers[i] as usize;
         tally = add(tally, is_agreed(drawn[g], floats[2 * i + 1]));
-        i += 1;
     }
     tally
 }

@@ -116,8 +116,7 @@ fn try_setting(
         differed: 0,
         state: seed,
     };
-    let mut k: u32 = 0;
-    while k < bales {
+    for _ in 0..bales {
         trial = try_bale(
             settings,
             setting,
@@ -128,7 +127,6 @@ fn try_setting(
             work_numbers,
             trial,
         );
-        k += 1;
     }
     trial
 }
@@ -163,9 +161,7 @@ pub(crate) fn try_each(
     ensures report_after { report.new ≡ overwrite (trial_counts (trials_at settings.now seed bales regularised tolerance loop_limit grades markers pairs.now)) report.old }
     ensures work_floats_unchanged { (work_floats.new ≡ work_floats.old) × (work_numbers.new ≡ work_numbers.old) }
 {
-    let count = settings.len() / 3;
-    let mut i: usize = 0;
-    while i < count {
+    for i in 0..settings.len() / 3 {
         let setting = setting_at(settings, i);
         let under = settings_under(setting, regularised, tolerance, loop_limit);
         let trial = try_setting(
@@ -181,6 +177,5 @@ pub(crate) fn try_each(
         );
         report[2 * i] = trial.agreed;
         report[2 * i + 1] = trial.differed;
-        i += 1;
     }
 }

@@ -1,110 +1,94 @@
 // The morning's lines, `bale,kilograms`, read one by one from lent bytes.
 #![tactic(auto)]
 
-ghost use Rattle.std.specs.Prelude.{◌≤◌, ◌≡◌};
+ghost use Rattle.std.specs.Prelude.{◌≤◌, ◌≡◌, IfSome};
 ghost use Rattle.definition.specs.Tonnage.{at_most, next_digit};
-ghost use Rattle.weights.specs.Reading.{so_far, digit_of, NumberAt, LineAt};
+ghost use Rattle.weights.specs.Reading.{so_far, NumberAt, LineAt};
 
-// A line's bale, its kilograms, and the place after its line feed; or no line is left.
-#[derive(Clone, Copy)]
-pub enum Row {
-    Good(u32, u32, usize),
-    Malformed,
-    End,
+// A line, and the place after its line feed.
+#[derive(Clone, Copy, Debug, PartialEq, Eq)]
+pub struct Line {
+    pub bale: u32,
+    pub kilograms: u32,
+    pub after: usize,
 }
 
-#[derive(Clone, Copy)]
-enum Digit {
-    Good(u32),
-    Malformed,
-}
+// What stands there is no good line.
+#[derive(Clone, Copy, Debug, PartialEq, Eq)]
+pub struct Malformed;
 
 // A number, and the place after the byte that ends it.
 #[derive(Clone, Copy)]
-enum Found {
-    Number(u32, usize),
-    Nothing,
+struct Number {
+    value: u32,
+    after: usize,
 }
 
 const MOST_BALE: u32 = 9999;
 
 const MOST_KILOGRAMS: u32 = 2000;
 
-fn at_most(value: u32, most: u32) -> Digit
-    ensures { digit_of result ≡ at_most most value }
+fn at_most(value: u32, most: u32) -> Option<u32>
+    ensures { so_far result ≡ at_most most value }
 {
-    if value <= most {
-        Digit::Good(value)
-    } else {
-        Digit::Malformed
-    }
+    if value <= most { Some(value) } else { None }
 }
 
-// The value with one more digit; `first` says that there is none yet. No digit follows a leading 0.
-fn next_digit(first: bool, value: u32, byte: u8, most: u32) -> Digit
-    requires { (value ≤ most) × (most ≤ 9999) }
-    ensures { digit_of result ≡ next_digit most (so_far first value) byte }
+// What was read so far, with one more digit. None follows a leading 0.
+fn next_digit(read: Option<u32>, byte: u8, most: u32) -> Option<u32>
+    requires { (IfSome read (λ v. v ≤ most)) × (most ≤ 9999) }
+    ensures { so_far result ≡ next_digit most (so_far read) byte }
 {
-    if byte < b'0' {
-        return Digit::Malformed;
+    if !byte.is_ascii_digit() {
+        return None;
     }
-    if b'9' < byte {
-        return Digit::Malformed;
+    let digit = u32::from(byte - b'0');
+    match read {
+        None => at_most(digit, most),
+        Some(0) => None,
+        Some(value) => at_most(10 * value + digit, most),
     }
-    let digit = (byte - b'0') as u32;
-    if first {
-        return at_most(digit, most);
-    }
-    if value == 0 {
-        return Digit::Malformed;
-    }
-    at_most(10 * value + digit, most)
 }
 
 // The number from a place on, up to the byte `end`.
-fn read_number(csv: &[u8], at: usize, end: u8, most: u32) -> Found
+fn read_number(csv: &[u8], at: usize, end: u8, most: u32) -> Option<Number>
     requires { most ≤ 9999 }
     ensures { NumberAt most end csv.now at result }
 {
-    let mut first = true;
-    let mut value: u32 = 0;
-    let mut i = at;
-    while i < csv.len() {
+    let mut read = None;
+    for i in at..csv.len() {
         let byte = csv[i];
         if byte == end {
-            if first {
-                return Found::Nothing;
-            }
-            return Found::Number(value, i + 1);
+            let value = read?;
+            return Some(Number {
+                value: value,
+                after: i + 1,
+            });
         }
-        let Digit::Good(more) = next_digit(first, value, byte, most) else {
-            return Found::Nothing;
-        };
-        value = more;
-        first = false;
-        i += 1;
+        let more = next_digit(read, byte, most)?;
+        read = Some(more);
     }
-    Found::Nothing
+    None
 }
 
-// The line from a place on. Its bale is at least `next`.
-pub fn read_line(csv: &[u8], at: usize, next: u32) -> Row
+// The line from a place on, if one is left. Its bale is at least `next`.
+pub fn read_line(csv: &[u8], at: usize, next: u32) -> Result<Option<Line>, Malformed>
     ensures { LineAt next csv.now at result }
 {
     if csv.len() <= at {
-        return Row::End;
+        return Ok(None);
     }
-    let Found::Number(bale, middle) = read_number(csv, at, b',', MOST_BALE) else {
-        return Row::Malformed;
-    };
-    if bale < next {
-        return Row::Malformed;
+    let bale = read_number(csv, at, b',', MOST_BALE).ok_or(Malformed)?;
+    if bale.value < next {
+        return Err(Malformed);
     }
-    let Found::Number(kilograms, after) = read_number(csv, middle, b'\n', MOST_KILOGRAMS) else {
-        return Row::Malformed;
-    };
-    if kilograms == 0 {
-        return Row::Malformed;
+    let kilograms = read_number(csv, bale.after, b'\n', MOST_KILOGRAMS).ok_or(Malformed)?;
+    if kilograms.value == 0 {
+        return Err(Malformed);
     }
-    Row::Good(bale, kilograms, after)
+    Ok(Some(Line {
+        bale: bale.value,
+        kilograms: kilograms.value,
+        after: kilograms.after,
+    }))
 }

@@ -86,9 +86,6 @@ module _ (queue leaves : ℕ) (p : List Float) (words : List ℕ) (W : WaitingAt
 
 -- a direction's word is read where the queue was written only
 module _ (queue leaves : ℕ) (words : List ℕ) (room : queue + 2 * leaves ≤ length words) (outs from to d n : ℕ) (O : OthersAt words outs queue from to d n) (w : List ℕ) (K : OnlyAt queue (2 * leaves) words w) (k : ℕ) (h : k < to) where
-  pub other_there : outs + k < length w
-  other_there = omega (arith, O.others.within, O.front, room, K.long)
-
   pub other_read : (o : ℕ) → o ≡ get_or w (outs + k) 0 → o ≡ get_or (region words outs n) k 0
   other_read o e =
       let l : k < n = omega (arith, O.others.within) in

@@ -90,8 +90,3 @@ module _ (words : List ℕ) (evidence : List Float) (n k m l : ℕ) (ek : k ≡ 
   pub input_read : k ≡ 2 → (s : Settings) (t : MessageGraph) (out : ℕ) → PartWords s t out evidence words → n < length t.nodes → binary (get_or evidence (2 * l) nan) (get_or evidence (2 * l + 1) nan) ≡ initial_belief s (node_at t n).kind
   input_read e s t out P h =
       ap (λ (i : ℕ). binary (get_or evidence (2 * i) nan) (get_or evidence (2 * i + 1) nan)) label_is ∙ input_belief s t out evidence words P n h (sym ek ∙ e)
-
-pub variable_room : (words : List ℕ) (evidence : List Float) (n : ℕ) → SomeVariable words evidence n → (2 + n < length words) × (2 + get_or words 0 0 + n < length words)
-variable_room words evidence n S =
-    let r = label_room S.settings S.graph S.out evidence words S.part n S.node in
-    (omega (arith, r.1), r.1)

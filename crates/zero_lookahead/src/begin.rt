@@ -5,26 +5,25 @@ ghost use Rattle.definition.specs.Directions.{MessageGraph};
 ghost use Rattle.definition.specs.Sweeps.{Store};
 ghost use Rattle.definition.specs.Run.{begin_loop};
 ghost use Rattle.list_laws.specs.Write.{write};
-ghost use Rattle.array_utils.specs.LogTable.{log_table};
 ghost use Rattle.zero_lookahead.specs.Part.{Given, leaves_in, queue_at, StandsFor, Runs, KeptFront};
 ghost use Rattle.zero_lookahead.specs.BeginKeys.{SomeStandingAny, leaf_key};
 
 use crate::open::clear_pending;
 use crate::settings::Settings;
-use crate::words::word;
+use array_utils::LogTable;
+use messages::directions::word;
 use opening::begin::initial_key;
 use priorities::{fill, leaves_for};
 
 // The key of direction d, from its message in force and its message in the log. It is 0 behind the last direction.
 fn leaf_key(
-    table: &[f32; 1025],
+    table: &LogTable,
     w: &[f32],
     words: &[u32],
     out: usize,
     settings: Settings,
     d: usize,
 ) -> u32
-    requires table_value { table.now ≡ log_table }
     requires some_standing_any { SomeStandingAny settings out words.now w.now }
     ensures { (s : definition.Settings) (t : MessageGraph) (evidence : List Float) (x : Store) → StandsFor s t out evidence x words.now w.now → Given s settings → result ≡ leaf_key s t x d }
 {
@@ -45,7 +44,7 @@ fn leaf_key(
 
 // The keys of all leaves of the queue, which stand from `at` on.
 fn fill_leaves(
-    table: &[f32; 1025],
+    table: &LogTable,
     w: &[f32],
     words: &mut [u32],
     out: usize,
@@ -53,21 +52,17 @@ fn fill_leaves(
     at: usize,
     leaves: usize,
 )
-    requires table_value { table.now ≡ log_table }
     requires some_standing_any { SomeStandingAny settings out words.old w.now }
     requires at_value { (at ≡ queue_at words.old out + leaves_in words.old) × (leaves ≡ leaves_in words.old) }
     ensures { (s : definition.Settings) (t : MessageGraph) (evidence : List Float) (x : Store) → StandsFor s t out evidence x words.old w.now → Given s settings → words.new ≡ write words.old at leaves (leaf_key s t x) }
 {
-    let mut d = 0;
-    while d < leaves {
+    for d in 0..leaves {
         let key = leaf_key(table, w, words, out, settings, d);
         words[at + d] = key;
-        d += 1;
     }
 }
 
-pub fn begin(table: &[f32; 1025], w: &mut [f32], words: &mut [u32], out: usize, settings: Settings)
-    requires table_value { table.now ≡ log_table }
+pub fn begin(table: &LogTable, w: &mut [f32], words: &mut [u32], out: usize, settings: Settings)
     requires some_standing_any { SomeStandingAny settings out words.old w.old }
     ensures kept_front { KeptFront out words.old words.new }
     ensures runs { (s : definition.Settings) (t : MessageGraph) (evidence : List Float) (x : Store) → StandsFor s t out evidence x words.old w.old → Given s settings → Runs s t out evidence (begin_loop s t x) words.new w.new }

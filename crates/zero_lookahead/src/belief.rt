@@ -8,8 +8,9 @@ ghost use Rattle.sweeps.specs.SweepRows.{IsVariable};
 ghost use Rattle.zero_lookahead.specs.Part.{PartWords};
 ghost use Rattle.zero_lookahead.specs.Variable.{SomeVariable};
 
-use crate::words::word;
 use array_utils::VariableMessage;
+use factor_graph::kind::NodeKind;
+use messages::directions::word;
 
 // The belief that a grade or an input starts with (`get_initial_belief`).
 pub(crate) fn initial_belief(
@@ -21,16 +22,9 @@ pub(crate) fn initial_belief(
     requires { SomeVariable words.now evidence.now n }
     ensures { (s : definition.Settings) (t : MessageGraph) (out : ℕ) → PartWords s t out evidence.now words.now → s.prior ≡ prior → n < length t.nodes → IsVariable (node_at t n).kind → binary result.absent result.present ≡ initial_belief s (node_at t n).kind }
 {
-    if word(words, 2 + n) == 2 {
+    if word(words, 2 + n) == NodeKind::Input as usize {
         let nodes = word(words, 0);
-        let at = 2 * word(words, 2 + nodes + n);
-        return VariableMessage {
-            absent: evidence[at],
-            present: evidence[at + 1],
-        };
+        return VariableMessage::read(evidence, 2 * word(words, 2 + nodes + n));
     }
-    VariableMessage {
-        absent: 1.0 - prior,
-        present: prior,
-    }
+    VariableMessage::from_prior(prior)
 }

@@ -9,4 +9,3 @@ pub mod settings;
 pub mod step;
 pub mod sweep;
 pub mod update;
-pub mod words;

@@ -4,15 +4,15 @@ ghost use Rattle.definition.specs.Settings as definition;
 ghost use Rattle.definition.specs.Directions.{MessageGraph};
 ghost use Rattle.definition.specs.Sweeps.{opening};
 ghost use Rattle.list_laws.specs.Put.{put};
-ghost use Rattle.array_utils.specs.LogTable.{log_table};
 ghost use Rattle.zero_lookahead.specs.Part.{Given, rows_end, PartRoom, SomePartRoom, StandsFor, KeptFront};
 ghost use Rattle.zero_lookahead.specs.Open.{PendingFits, pending_cleared, OpenedPart, FlagsFit};
 
 use crate::settings::Settings;
-use crate::words::word;
-use messages::directions::{firsts_row, kinds_row, labels_row, offsets_row, outs_row, starts_row};
-use opening::open::{clear_words, open_part};
-use sweeps::send_tree::clear_at;
+use array_utils::LogTable;
+use messages::directions::{
+    firsts_row, kinds_row, labels_row, offsets_row, outs_row, starts_row, word,
+};
+use opening::open::open_part;
 
 // Nothing is pending, and so many floats behind the pending residuals are zero.
 pub(crate) fn clear_pending(w: &mut [f32], words: &[u32], out: usize, more: usize)
@@ -21,18 +21,18 @@ pub(crate) fn clear_pending(w: &mut [f32], words: &[u32], out: usize, more: usiz
 {
     let edges = word(words, 1);
     let l = word(words, out + 6 * edges);
-    clear_at(w, 4 * l, 2 * edges + more);
+    let at = 4 * l;
+    w[at..at + 2 * edges + more].fill(0.0);
 }
 
 fn open_floats(
-    table: &[f32; 1025],
+    table: &LogTable,
     w: &mut [f32],
     words: &[u32],
     out: usize,
     evidence: &[f32],
     settings: Settings,
 )
-    requires table_value { table.now ≡ log_table }
     requires some_part_room { SomePartRoom settings out evidence.now words.now w.old }
     ensures { (s : definition.Settings) (t : MessageGraph) → PartRoom s t out evidence.now words.now w.old → Given s settings → OpenedPart s t w.new }
 {
@@ -68,18 +68,17 @@ fn clear_flags(words: &mut [u32], out: usize)
     let nodes = words[0] as usize;
     let edges = words[1] as usize;
     let at = out + (6 * edges + 1);
-    clear_words(&mut words[at..at + nodes]);
+    words[at..at + nodes].fill(0);
 }
 
 pub fn open(
-    table: &[f32; 1025],
+    table: &LogTable,
     w: &mut [f32],
     words: &mut [u32],
     out: usize,
     evidence: &[f32],
     settings: Settings,
 )
-    requires table_value { table.now ≡ log_table }
     requires some_part_room { SomePartRoom settings out evidence.now words.old w.old }
     ensures kept_front { KeptFront out words.old words.new }
     ensures stands_for { (s : definition.Settings) (t : MessageGraph) → PartRoom s t out evidence.now words.old w.old → Given s settings → StandsFor s t out evidence.now (opening s t) words.new w.new }

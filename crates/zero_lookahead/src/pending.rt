@@ -13,8 +13,7 @@ ghost use Rattle.zero_lookahead.specs.StepAdded.{Adding, Added, AddingAlong, Add
 ghost use Rattle.zero_lookahead.specs.StepReads.{SomePart};
 ghost use Rattle.zero_lookahead.specs.StepQueue.{WaitingAt, OnlyAt, OthersAt};
 
-use crate::words::word;
-use messages::directions::{firsts_row, offsets_row, outs_row, starts_row};
+use messages::directions::{firsts_row, offsets_row, outs_row, starts_row, word};
 use steps::log::row_len;
 use steps::pending::{add_to_pending, clear_pending};
 
@@ -63,13 +62,11 @@ fn add_to_others(
     ensures pending_after { pending.new ≡ add_pending r (others_to (region words.old outs (length pending.old)) from d to) pending.old }
     ensures all_kept { AllKept leaves (length pending.old) pending.new (others_to (region words.old outs (length pending.old)) from d to) (region words.old queue (2 * leaves)) (region words.new queue (2 * leaves)) }
 {
-    let mut k = from;
-    while k < to {
+    for k in from..to {
         if k != d {
             let o = word(words, outs + k);
             add_at(pending, words, queue, leaves, o, r);
         }
-        k += 1;
     }
 }
 

@@ -6,7 +6,6 @@ ghost use Rattle.definition.specs.Messages.{residual};
 ghost use Rattle.definition.specs.Priorities.{Highest};
 ghost use Rattle.definition.specs.Run.{State, scheduled_step};
 ghost use Rattle.definition.specs.Sweeps.{Store};
-ghost use Rattle.array_utils.specs.LogTable.{log_table};
 ghost use Rattle.messages.specs.State.{changed_of};
 ghost use Rattle.steps.specs.StepChanged.{changed_from};
 ghost use Rattle.steps.specs.StepLog.{ChangedBelow};
@@ -16,12 +15,12 @@ ghost use Rattle.zero_lookahead.specs.StepStands.{SomeStands, StandsWith, logged
 use crate::pending::add_along;
 use crate::settings::Settings;
 use crate::update::update_message;
+use array_utils::LogTable;
 use messages::directions::{firsts_row, offsets_row, starts_row};
 use steps::log::{Changed, residual_at, update_log};
 
 // By how much the message in force along direction d differs from the logged one.
-fn residual_along(table: &[f32; 1025], w: &[f32], words: &[u32], out: usize, d: usize) -> f32
-    requires table_value { table.now ≡ log_table }
+fn residual_along(table: &LogTable, w: &[f32], words: &[u32], out: usize, d: usize) -> f32
     requires some_stands { SomeStands out words.now w.now × (d < 2 * get_or words.now 1 0) }
     ensures { (s : definition.Settings) (t : MessageGraph) (evidence : List Float) (x : Store) → StandsFor s t out evidence x words.now w.now → result ≡ residual t x.msg_in x.msg_in_log d }
 {
@@ -41,7 +40,7 @@ fn log_changed(w: &mut [f32], words: &[u32], out: usize, changed: Changed)
 
 // Along direction d. Which nodes changed, for the next step.
 pub fn scheduled_step(
-    table: &[f32; 1025],
+    table: &LogTable,
     w: &mut [f32],
     words: &mut [u32],
     out: usize,
@@ -50,7 +49,6 @@ pub fn scheduled_step(
     changed: Changed,
     d: usize,
 ) -> Changed
-    requires table_value { table.now ≡ log_table }
     requires some_running { SomeRunning settings out evidence.now words.old w.old }
     requires d_bound { (d < 2 * get_or words.old 1 0) × ChangedBelow (changed_from changed) (get_or words.old 0 0 + 1) }
     ensures kept_front { KeptFront out words.old words.new × ChangedBelow (changed_from result) (get_or words.new 0 0 + 1) }

@@ -3,7 +3,6 @@ ghost use Rattle.std.specs.Prelude.{◌≡◌, false, List, ◌+◌, Float, leng
 ghost use Rattle.definition.specs.Settings as definition;
 ghost use Rattle.definition.specs.Directions.{MessageGraph};
 ghost use Rattle.definition.specs.Sweeps.{Store, sweep};
-ghost use Rattle.array_utils.specs.LogTable.{log_table};
 ghost use Rattle.sweeps.specs.SweepNode.{NodeSent};
 ghost use Rattle.zero_lookahead.specs.Part.{rows_end, Given, StandsFor, SomeStanding, KeptFront};
 ghost use Rattle.zero_lookahead.specs.SweepLoop.{Swept};
@@ -11,15 +10,16 @@ ghost use Rattle.zero_lookahead.specs.SweepSend.{NodeRows, SomeNode, SomeNodeOf}
 
 use crate::belief::initial_belief;
 use crate::settings::Settings;
-use crate::words::word;
-use messages::directions::{firsts_row, offsets_row, outs_row};
+use array_utils::LogTable;
+use factor_graph::kind::NodeKind;
+use messages::directions::{firsts_row, offsets_row, outs_row, word};
 use sweeps::send::{send_factor, send_variable};
 use sweeps::send_tree::send_tree;
 use sweeps::sweep::rotate;
 
 // A grade or an input.
 fn send_from_variable(
-    table: &[f32; 1025],
+    table: &LogTable,
     w: &mut [f32],
     words: &[u32],
     out: usize,
@@ -27,7 +27,6 @@ fn send_from_variable(
     prior: f32,
     n: usize,
 )
-    requires table_value { table.now ≡ log_table }
     requires some_node { SomeNode out evidence.now words.now w.old n × (get_or words.now (2 + n) 0 ≡ 1 → ⊥) × (get_or words.now (2 + n) 0 ≡ 3 → ⊥) }
     ensures { (s : definition.Settings) (t : MessageGraph) (r_in r_new r_log r_build pending rest : List Float) → NodeRows s t out evidence.now words.now w.old r_in r_new r_log r_build pending rest n → s.prior ≡ prior → NodeSent s t r_in r_new r_log r_build pending rest (get_or words.now (rows_end words.now out + n) 0) n false w.new }
 {
@@ -63,14 +62,13 @@ fn send_from_factor(
 
 // Whether the tree was built anew.
 pub(crate) fn send_from_tree(
-    table: &[f32; 1025],
+    table: &LogTable,
     w: &mut [f32],
     words: &[u32],
     out: usize,
     tolerance: f32,
     n: usize,
 ) -> bool
-    requires table_value { table.now ≡ log_table }
     requires some_node_of { SomeNodeOf 3 out words.now w.old n }
     ensures { (s : definition.Settings) (t : MessageGraph) (evidence r_in r_new r_log r_build pending rest : List Float) → NodeRows s t out evidence words.now w.old r_in r_new r_log r_build pending rest n → s.tolerance ≡ tolerance → NodeSent s t r_in r_new r_log r_build pending rest (get_or words.now (rows_end words.now out + n) 0) n result w.new }
 {
@@ -90,7 +88,7 @@ pub(crate) fn send_from_tree(
 
 // By the node's kind. Whether it is a tree that was built anew.
 fn send_node(
-    table: &[f32; 1025],
+    table: &LogTable,
     w: &mut [f32],
     words: &[u32],
     out: usize,
@@ -98,15 +96,14 @@ fn send_node(
     settings: Settings,
     n: usize,
 ) -> bool
-    requires table_value { table.now ≡ log_table }
     requires some_node { SomeNode out evidence.now words.now w.old n }
     ensures { (s : definition.Settings) (t : MessageGraph) (r_in r_new r_log r_build pending rest : List Float) → NodeRows s t out evidence.now words.now w.old r_in r_new r_log r_build pending rest n → Given s settings → NodeSent s t r_in r_new r_log r_build pending rest (get_or words.now (rows_end words.now out + n) 0) n result w.new }
 {
     let kind = words[2 + n];
-    if kind == 3 {
+    if kind == NodeKind::Tree as u32 {
         return send_from_tree(table, w, words, out, settings.tolerance, n);
     }
-    if kind == 1 {
+    if kind == NodeKind::Factor as u32 {
         send_from_factor(
             w,
             words,
@@ -124,14 +121,13 @@ fn send_node(
 
 // All nodes, one after the other, from the messages in force into the new ones; a tree that is built anew has its flag set.
 fn send_nodes(
-    table: &[f32; 1025],
+    table: &LogTable,
     w: &mut [f32],
     words: &mut [u32],
     out: usize,
     evidence: &[f32],
     settings: Settings,
 )
-    requires table_value { table.now ≡ log_table }
     requires some_standing { SomeStanding settings out evidence.now words.old w.old }
     ensures kept_front { KeptFront out words.old words.new }
     ensures swept { (s : definition.Settings) (t : MessageGraph) (x : Store) → StandsFor s t out evidence.now x words.old w.old → Given s settings → Swept s t out evidence.now x (length t.nodes) words.new w.new }
@@ -139,24 +135,21 @@ fn send_nodes(
     let nodes = word(words, 0);
     let edges = word(words, 1);
     let flags = out + (6 * edges + 1);
-    let mut n = 0;
-    while n < nodes {
+    for n in 0..nodes {
         if send_node(table, w, words, out, evidence, settings, n) {
             words[flags + n] = 1;
         }
-        n += 1;
     }
 }
 
 pub fn sweep(
-    table: &[f32; 1025],
+    table: &LogTable,
     w: &mut [f32],
     words: &mut [u32],
     out: usize,
     evidence: &[f32],
     settings: Settings,
 )
-    requires table_value { table.now ≡ log_table }
     requires some_standing { SomeStanding settings out evidence.now words.old w.old }
     ensures kept_front { KeptFront out words.old words.new }
     ensures stands_for { (s : definition.Settings) (t : MessageGraph) (x : Store) → StandsFor s t out evidence.now x words.old w.old → Given s settings → StandsFor s t out evidence.now (sweep s t x) words.new w.new }

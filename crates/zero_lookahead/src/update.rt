@@ -6,7 +6,6 @@ ghost use Rattle.definition.specs.Directions.{MessageGraph, node_at};
 ghost use Rattle.definition.specs.Messages.{initial_belief};
 ghost use Rattle.definition.specs.Sweeps.{Store};
 ghost use Rattle.definition.specs.Run.{update_single, update_tree};
-ghost use Rattle.array_utils.specs.LogTable.{log_table};
 ghost use Rattle.steps.specs.StepChanged.{changed_from};
 ghost use Rattle.steps.specs.StepLog.{ChangedBelow};
 ghost use Rattle.sweeps.specs.SweepRows.{IsVariable};
@@ -21,9 +20,9 @@ use crate::belief::initial_belief;
 use crate::pending::{end_at, start_at};
 use crate::settings::Settings;
 use crate::sweep::send_from_tree;
-use crate::words::word;
-use array_utils::VariableMessage;
-use messages::directions::{firsts_row, kinds_row, offsets_row, outs_row, starts_row};
+use array_utils::{LogTable, VariableMessage};
+use factor_graph::kind::NodeKind;
+use messages::directions::{firsts_row, kinds_row, offsets_row, outs_row, starts_row, word};
 use steps::log::{Changed, copy_neighbours};
 use steps::single::update_single;
 
@@ -32,7 +31,7 @@ fn belief_of(words: &[u32], evidence: &[f32], prior: f32, n: usize) -> VariableM
     requires { SomeSender words.now evidence.now n }
     ensures { (s : definition.Settings) (t : MessageGraph) (out : ℕ) → PartWords s t out evidence.now words.now → s.prior ≡ prior → n < length t.nodes → IsVariable (node_at t n).kind → binary result.absent result.present ≡ initial_belief s (node_at t n).kind }
 {
-    if word(words, 2 + n) == 1 {
+    if word(words, 2 + n) == NodeKind::Factor as usize {
         return VariableMessage {
             absent: 0.0,
             present: 0.0,
@@ -43,7 +42,7 @@ fn belief_of(words: &[u32], evidence: &[f32], prior: f32, n: usize) -> VariableM
 
 // Along direction d, whose start n is no tree.
 fn send_single(
-    table: &[f32; 1025],
+    table: &LogTable,
     w: &mut [f32],
     words: &[u32],
     out: usize,
@@ -52,7 +51,6 @@ fn send_single(
     n: usize,
     d: usize,
 )
-    requires table_value { table.now ≡ log_table }
     requires some_standing { SomeStanding settings out evidence.now words.now w.old × SingleAlong out d n words.now }
     ensures { (s : definition.Settings) (t : MessageGraph) (x : Store) (pending : List Float) (queue : List ℕ) → StandsWith s t out evidence.now x pending queue words.now w.old → Given s settings → StandsWith s t out evidence.now (update_single s t d x.msg_in_log x).store pending queue words.now w.new }
 {
@@ -102,14 +100,13 @@ fn take_around(w: &mut [f32], words: &[u32], out: usize, n: usize)
 
 // The tree at node n sends all its messages.
 fn update_tree(
-    table: &[f32; 1025],
+    table: &LogTable,
     w: &mut [f32],
     words: &mut [u32],
     out: usize,
     tolerance: f32,
     n: usize,
 )
-    requires table_value { table.now ≡ log_table }
     requires some_tree { SomeTree tolerance out n words.old w.old }
     ensures kept_front { KeptFront out words.old words.new }
     ensures stands_with { (s : definition.Settings) (t : MessageGraph) (evidence : List Float) (x : Store) (pending : List Float) (queue : List ℕ) → StandsWith s t out evidence x pending queue words.old w.old → s.tolerance ≡ tolerance → StandsWith s t out evidence (update_tree s t n x.msg_in_log x).store pending queue words.new w.new }
@@ -121,7 +118,7 @@ fn update_tree(
 
 // The message of a step along direction d, by its start's kind. Which nodes changed.
 pub(crate) fn update_message(
-    table: &[f32; 1025],
+    table: &LogTable,
     w: &mut [f32],
     words: &mut [u32],
     out: usize,
@@ -129,14 +126,13 @@ pub(crate) fn update_message(
     settings: Settings,
     d: usize,
 ) -> Changed
-    requires table_value { table.now ≡ log_table }
     requires some_standing { SomeStanding settings out evidence.now words.old w.old × (d < 2 * get_or words.old 1 0) }
     ensures kept_front { KeptFront out words.old words.new × ChangedBelow (changed_from result) (get_or words.old 0 0 + 1) }
     ensures updated { (s : definition.Settings) (t : MessageGraph) (x : Store) (pending : List Float) (queue : List ℕ) → StandsWith s t out evidence.now x pending queue words.old w.old → Given s settings → Updated s t out evidence.now x d pending queue words.new w.new (changed_from result) }
 {
     let n = start_at(words, out, d);
     let end = end_at(words, out, d);
-    if word(words, 2 + n) == 3 {
+    if word(words, 2 + n) == NodeKind::Tree as usize {
         update_tree(table, w, words, out, settings.tolerance, n);
         return Changed::Around(n as u32);
     }

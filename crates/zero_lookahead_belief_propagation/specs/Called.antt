@@ -1,5 +1,7 @@
 -- The call as the code has it, and the definition's.
 use Rattle.std.specs.Prelude.{ℕ, suc, ◌+◌, ◌-◌, ◌*◌, ◌/◌, ◌≤◌, ◌<◌, ◌≡◌, true, List, [], ◌∷◌, ◌++◌, T, Float, length, get_or, take, drop, replicate}
+use Rattle.std.specs.Prelude as std
+use Rattle.std.specs.Prelude.{Ok, Err}
 use Rattle.std.proofs.Common.{arith, ◌∙◌, subst, length-take-le}
 use Rattle.std.proofs.Math.Path.{sym, ap}
 use Rattle.std.specs.Float.{binary32, nan}
@@ -18,21 +20,22 @@ use Rattle.message_bounds.specs.CallByParts.{call-by-parts}
 use Rattle.graph_laws.specs.Accepted.{passes_all, sized}
 use Rattle.graph_laws.specs.AnswerSizes.{answer-sizes}
 use Rattle.graph_laws.specs.CallLengths.{Room, room, call_accepted}
+use Rattle.checks.specs.declared.refusal.Refusal.{Refusal}
+use Rattle.checks.specs.Verdicts.{number_of}
 use Rattle.checks.specs.Accepted.{accepted_checked}
 use Rattle.checks.specs.Slices.{length_markers, length_pairs}
-use Rattle.zero_lookahead_belief_propagation.specs.declared.call.Outcome.{Outcome}
-use Rattle.zero_lookahead_belief_propagation.specs.declared.call.Outcome.TheVariants.{Answered, Refused}
+use Rattle.zero_lookahead_belief_propagation.specs.declared.call.Counts.{Counts}
 use Rattle.zero_lookahead_belief_propagation.specs.Answered.{Answers, answers_with, Written}
 use Rattle.zero_lookahead_belief_propagation.specs.Calibrated.{AcceptedCall}
 
-abbrev pub outcome_of : Outcome → definition.Outcome
-outcome_of (Answered n k) = answered n k
-outcome_of (Refused n p) = refused_at n p
+abbrev pub outcome_of : std.Result Counts Refusal → definition.Outcome
+outcome_of (Ok c) = answered c.beliefs c.endings
+outcome_of (Err r) = refused_at (number_of r.check) r.place
 
 abbrev pub lent_with : List Float → List ℕ → List ℕ → List Float → List ℕ → List Float → Lent
 lent_with wf wn bn bf en ef = record { work_floats = wf; work_numbers = wn; belief_numbers = bn; belief_floats = bf; ending_numbers = en; ending_floats = ef }
 
-abbrev pub result_with : Outcome → Lent → Result
+abbrev pub result_with : std.Result Counts Refusal → Lent → Result
 result_with r l = record { outcome = outcome_of r; lent = l }
 
 -- ---- demand 3 of it
@@ -127,7 +130,7 @@ module _ (s : Settings) (g : ℕ) (es : List Float) (ps : List ℕ) (l : Lent) (
         (omega (arith, W.beliefs_are, z.beliefs, q.grades), omega (arith, W.endings_are, z.parts, q.grades))
 
     pub call_answered : (x : List Float) (y : List ℕ) → x ≡ replicate (length (front_of l.work_floats (needed g es ps))) zeroᶠ → y ≡ replicate (length (front_of l.work_numbers (needed g es ps))) 0
-        → result_with (Answered m k) (lent_with (with_front l.work_floats (needed g es ps) x) (with_front l.work_numbers (needed g es ps) y) l'.belief_numbers l'.belief_floats l'.ending_numbers l'.ending_floats)
+        → result_with (Ok record { beliefs = m; endings = k }) (lent_with (with_front l.work_floats (needed g es ps) x) (with_front l.work_numbers (needed g es ps) y) l'.belief_numbers l'.belief_floats l'.ending_numbers l'.ending_floats)
         ≡ call s g es ps l
     unfolding answered_by
     call_answered x y ex ey =

@@ -4,12 +4,12 @@ ghost use Rattle.definition.specs.FactorGraph.{Bale};
 ghost use Rattle.definition.specs.Answer.{ending_number, ending_residual, answers_of, part_answer};
 ghost use Rattle.definition.specs.Directions.{message_graph_of};
 ghost use Rattle.definition.specs.Call.{overwrite};
-ghost use Rattle.array_utils.specs.LogTable.{log_table};
 ghost use Rattle.zero_lookahead.specs.Part.{KeptFront};
 ghost use Rattle.part.specs.Ending.{ending_from};
 ghost use Rattle.zero_lookahead_belief_propagation.specs.Answered.{answers_with, Written, part_at};
 ghost use Rattle.zero_lookahead_belief_propagation.specs.AnsweredPart.{settings_from, Large, SomeLarge, PartRuns, Asked, SomeAsked};
 
+use array_utils::LogTable;
 use messages::directions::fill_directions;
 use part::beliefs::beliefs;
 use part::run::{Ending, run};
@@ -22,22 +22,24 @@ struct EndingWords {
     residual: f32,
 }
 
-fn ending_words(ending: Ending) -> EndingWords
-    ensures { (result.number ≡ ending_number (ending_from ending)) × (result.residual ≡ ending_residual (ending_from ending)) }
-{
-    match ending {
-        Ending::Limit(r) => EndingWords {
-            number: 0,
-            residual: r,
-        },
-        Ending::Settled(r) => EndingWords {
-            number: 1,
-            residual: r,
-        },
-        Ending::Empty => EndingWords {
-            number: 2,
-            residual: 0.0,
-        },
+impl From<Ending> for EndingWords {
+    ghost from_gives = { λ e w. (w.number ≡ ending_number (ending_from e)) × (w.residual ≡ ending_residual (ending_from e)) };
+
+    fn from(ending: Ending) -> EndingWords {
+        match ending {
+            Ending::Limit(r) => EndingWords {
+                number: 0,
+                residual: r,
+            },
+            Ending::Settled(r) => EndingWords {
+                number: 1,
+                residual: r,
+            },
+            Ending::Empty => EndingWords {
+                number: 2,
+                residual: 0.0,
+            },
+        }
     }
 }
 
@@ -54,7 +56,7 @@ fn end_part(
     ensures numbers_after { numbers.new ≡ overwrite (number ∷ ending_number (ending_from ending) ∷ steps ∷ count ∷ []) numbers.old }
     ensures floats_after { floats.new ≡ overwrite (ending_residual (ending_from ending) ∷ []) floats.old }
 {
-    let e = ending_words(ending);
+    let e = EndingWords::from(ending);
     numbers[0] = number;
     numbers[1] = e.number;
     numbers[2] = steps;
@@ -72,7 +74,7 @@ struct PartRun {
 
 // A part of over 2 nodes, whose record is at the front of the words, is run to its end, and its beliefs are written.
 fn run_part(
-    table: &[f32; 1025],
+    table: &LogTable,
     w: &mut [f32],
     words: &mut [u32],
     out: usize,
@@ -82,7 +84,6 @@ fn run_part(
     numbers: &mut [u32],
     floats: &mut [f32],
 ) -> PartRun
-    requires table_value { table.now ≡ log_table }
     requires some_large { SomeLarge (settings_from settings limit) out evidence.now words.old (length w.old) (length numbers.old) (length floats.old) }
     ensures kept_front { KeptFront out words.old words.new }
     ensures part_runs { (b : Bale) (n : ℕ) → Large (settings_from settings limit) b n out evidence.now words.old (length w.old) (length numbers.old) (length floats.old) → PartRuns (part_answer (settings_from settings limit) n (part_at b n) (message_graph_of b (part_at b n))) numbers.old floats.old result.ending result.steps result.beliefs numbers.new floats.new }
@@ -100,14 +101,14 @@ fn run_part(
 
 // How many beliefs and endings were written.
 #[derive(Clone, Copy)]
-pub struct Counts {
+pub struct Filled {
     pub beliefs: usize,
     pub endings: usize,
 }
 
 // Part `number`, whose record is at the front of the words: its answer at the fronts of the four answer slices. A part of at most 2 nodes has none.
 pub fn answer_part(
-    table: &[f32; 1025],
+    table: &LogTable,
     w: &mut [f32],
     words: &mut [u32],
     out: usize,
@@ -119,14 +120,13 @@ pub fn answer_part(
     belief_floats: &mut [f32],
     ending_numbers: &mut [u32],
     ending_floats: &mut [f32],
-) -> Counts
-    requires table_value { table.now ≡ log_table }
+) -> Filled
     requires some_asked { SomeAsked (settings_from settings limit) number out evidence.now words.old (length w.old) (answers_with belief_numbers.old belief_floats.old ending_numbers.old ending_floats.old) }
     ensures kept_front { KeptFront out words.old words.new }
     ensures written { (b : Bale) → Asked (settings_from settings limit) b number out evidence.now words.old (length w.old) (answers_with belief_numbers.old belief_floats.old ending_numbers.old ending_floats.old) → Written (answers_of (settings_from settings limit) b number (part_at b number)) (answers_with belief_numbers.old belief_floats.old ending_numbers.old ending_floats.old) result.beliefs result.endings (answers_with belief_numbers.new belief_floats.new ending_numbers.new ending_floats.new) }
 {
     if words[0] <= 2 {
-        return Counts {
+        return Filled {
             beliefs: 0,
             endings: 0,
         };
@@ -152,7 +152,7 @@ pub fn answer_part(
         ending_numbers,
         ending_floats,
     );
-    Counts {
+    Filled {
         beliefs: count,
         endings: 1,
     }

@@ -4,18 +4,16 @@ ghost use Rattle.definition.specs.Floats.{zeroᶠ};
 ghost use Rattle.definition.specs.FactorGraph.{Bale};
 ghost use Rattle.definition.specs.Refusals.{bale_of};
 ghost use Rattle.definition.specs.Answer.{answer};
-ghost use Rattle.array_utils.specs.LogTable.{log_table};
 ghost use Rattle.zero_lookahead_belief_propagation.specs.Answered.{answers_with, Written};
 ghost use Rattle.zero_lookahead_belief_propagation.specs.AnsweredPart.{settings_from};
 ghost use Rattle.zero_lookahead_belief_propagation.specs.AnsweredAll.{RecordsAt, Cut, SomeCut};
 ghost use Rattle.zero_lookahead_belief_propagation.specs.Calibrated.{SomeAccepted, AcceptedCall};
 
-use crate::answer::{Counts, answer_part};
-use array_utils::log_table;
-use components::components::clear;
+use crate::answer::{Filled, answer_part};
+use array_utils::LogTable;
 use components::graph::build_components;
+use messages::directions::word;
 use zero_lookahead::settings::Settings;
-use zero_lookahead::words::word;
 
 // How many words the record at index `at` has.
 fn record_len(words: &[u32], at: usize) -> usize
@@ -53,7 +51,7 @@ fn cut_graph(words: &mut [u32], grades: u32, evidence: &[f32], pairs: &[u32]) ->
 
 // The answers of all `count` parts, whose records stand in the words from index `start` to index `end`. How many beliefs and endings there are.
 fn answer_parts(
-    table: &[f32; 1025],
+    table: &LogTable,
     w: &mut [f32],
     words: &mut [u32],
     start: usize,
@@ -66,16 +64,14 @@ fn answer_parts(
     belief_floats: &mut [f32],
     ending_numbers: &mut [u32],
     ending_floats: &mut [f32],
-) -> Counts
-    requires table_value { table.now ≡ log_table }
+) -> Filled
     requires some_cut { SomeCut (settings_from settings limit) start count end evidence.now words.old (length w.old) (answers_with belief_numbers.old belief_floats.old ending_numbers.old ending_floats.old) }
     ensures { (b : Bale) → Cut (settings_from settings limit) b start count end evidence.now words.old (length w.old) (answers_with belief_numbers.old belief_floats.old ending_numbers.old ending_floats.old) → Written (answer (settings_from settings limit) b) (answers_with belief_numbers.old belief_floats.old ending_numbers.old ending_floats.old) result.beliefs result.endings (answers_with belief_numbers.new belief_floats.new ending_numbers.new ending_floats.new) }
 {
     let mut at = start;
-    let mut number = 0;
     let mut beliefs = 0;
     let mut endings = 0;
-    while number < count {
+    for number in 0..count {
         let next = at + record_len(words, at);
         let out = end - at;
         let belief_at = 2 * beliefs;
@@ -97,22 +93,10 @@ fn answer_parts(
         beliefs += counts.beliefs;
         endings += counts.endings;
         at = next;
-        number += 1;
     }
-    Counts {
+    Filled {
         beliefs: beliefs,
         endings: endings,
-    }
-}
-
-// Sets all floats to 0.
-fn clear_floats(w: &mut [f32])
-    ensures { w.new ≡ replicate (length w.old) zeroᶠ }
-{
-    let mut i = 0;
-    while i < w.len() {
-        w[i] = 0.0;
-        i += 1;
     }
 }
 
@@ -120,9 +104,8 @@ fn clear_floats(w: &mut [f32])
 pub fn clear_work(w: &mut [f32], words: &mut [u32])
     ensures { (w.new ≡ replicate (length w.old) zeroᶠ) × (words.new ≡ replicate (length words.old) 0) }
 {
-    clear_floats(w);
-    let n = words.len();
-    clear(words, 0, n);
+    w.fill(0.0);
+    words.fill(0);
 }
 
 // An accepted call: the graph is built and cut in the work, its parts are answered, and the work is left zero.
@@ -138,12 +121,12 @@ pub(crate) fn calibrate_accepted(
     belief_floats: &mut [f32],
     ending_numbers: &mut [u32],
     ending_floats: &mut [f32],
-) -> Counts
+) -> Filled
     requires { AcceptedCall (settings_from settings limit) grades evidence.now pairs.now (length w.old) (length words.old) (answers_with belief_numbers.old belief_floats.old ending_numbers.old ending_floats.old) }
     ensures w_after { (w.new ≡ replicate (length w.old) zeroᶠ) × (words.new ≡ replicate (length words.old) 0) }
     ensures written { Written (answer (settings_from settings limit) (bale_of grades evidence.now pairs.now)) (answers_with belief_numbers.old belief_floats.old ending_numbers.old ending_floats.old) result.beliefs result.endings (answers_with belief_numbers.new belief_floats.new ending_numbers.new ending_floats.new) }
 {
-    let table = log_table();
+    let table = LogTable::new();
     let records = cut_graph(words, grades, evidence, pairs);
     let counts = answer_parts(
         &table,
@@ -160,8 +143,6 @@ pub(crate) fn calibrate_accepted(
         ending_numbers,
         ending_floats,
     );
-    clear_floats(w);
-    let n = words.len();
-    clear(words, 0, n);
+    clear_work(w, words);
     counts
 }

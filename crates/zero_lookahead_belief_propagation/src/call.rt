@@ -9,14 +9,14 @@ ghost use Rattle.zero_lookahead_belief_propagation.specs.AnsweredPart.{settings_
 ghost use Rattle.zero_lookahead_belief_propagation.specs.Called.{lent_with, result_with};
 
 use crate::calibrate::calibrate_accepted;
-use checks::{Buffers, Verdict};
+use checks::{Buffers, Refusal};
 use zero_lookahead::settings::Settings;
 
-// How many beliefs and endings there are, or a refusal's number and place.
+// How many beliefs and endings there are.
 #[derive(Clone, Copy)]
-pub enum Outcome {
-    Answered(u32, u32),
-    Refused(u32, u32),
+pub struct Counts {
+    pub beliefs: u32,
+    pub endings: u32,
 }
 
 // Whether the call is accepted.
@@ -27,7 +27,7 @@ fn judge(
     evidence: &[f32],
     pairs: &[u32],
     lent: Buffers,
-) -> Verdict
+) -> Result<(), Refusal>
     ensures { verdict_of result ≡ verdict (settings_from settings limit) (buffers_of lent) (bale_of grades evidence.now pairs.now) }
 {
     checks::check(
@@ -63,7 +63,7 @@ pub fn calibrate_all_subgraphs(
     belief_floats: &mut [f32],
     ending_numbers: &mut [u32],
     ending_floats: &mut [f32],
-) -> Outcome
+) -> Result<Counts, Refusal>
     ensures ending_floats_after { result_with result (lent_with work_floats.new work_numbers.new belief_numbers.new belief_floats.new ending_numbers.new ending_floats.new) ≡ call (settings_of alpha beta prior regularised tolerance loop_limit) grades evidence.now pairs.now (lent_with work_floats.old work_numbers.old belief_numbers.old belief_floats.old ending_numbers.old ending_floats.old) }
     ensures answered_by_parts { AnsweredByParts (settings_of alpha beta prior regularised tolerance loop_limit) grades evidence.now pairs.now (lent_with work_floats.old work_numbers.old belief_numbers.old belief_floats.old ending_numbers.old ending_floats.old) (result_with result (lent_with work_floats.new work_numbers.new belief_numbers.new belief_floats.new ending_numbers.new ending_floats.new)) }
 {
@@ -82,12 +82,9 @@ pub fn calibrate_all_subgraphs(
         ending_numbers: ending_numbers.len(),
         ending_floats: ending_floats.len(),
     };
-    let verdict = judge(settings, loop_limit, grades, evidence, pairs, lent);
-    if let Verdict::Refused(number, place) = verdict {
-        return Outcome::Refused(number, place);
-    }
+    judge(settings, loop_limit, grades, evidence, pairs, lent)?;
     let needed = 64 * (grades as usize + evidence.len() / 2 + pairs.len() / 2) + 4096;
-    let counts = calibrate_accepted(
+    let filled = calibrate_accepted(
         &mut work_floats[0..needed],
         &mut work_numbers[0..needed],
         settings,
@@ -100,5 +97,8 @@ pub fn calibrate_all_subgraphs(
         ending_numbers,
         ending_floats,
     );
-    Outcome::Answered(counts.beliefs as u32, counts.endings as u32)
+    Ok(Counts {
+        beliefs: filled.beliefs as u32,
+        endings: filled.endings as u32,
+    })
 }

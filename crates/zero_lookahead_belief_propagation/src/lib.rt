@@ -6,4 +6,4 @@ mod calibrate;
 mod call;
 
 pub use calibrate::clear_work;
-pub use call::{Outcome, calibrate_all_subgraphs};
+pub use call::{Counts, calibrate_all_subgraphs};

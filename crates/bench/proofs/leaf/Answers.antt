@@ -12,7 +12,7 @@ at n m x r e h = h ∙ ap (λ (k : ℕ). leaf_of k x) (sym e)
 
 pub returns-then-which-eq0 : goal.returns-then-which-eq0
 unfolding leaf_of
-returns-then-which-eq0 c = let a = c.args in at a.which 0 a.x c.ln_from_table.result c.if-which-eq0.true c.ln_from_table.ensures
+returns-then-which-eq0 c = let a = c.args in at a.which 0 a.x c.ln.result c.if-which-eq0.true c.ln.ensures
 
 pub returns-then-which-eq1 : goal.returns-then-which-eq1
 unfolding leaf_of

@@ -14,7 +14,7 @@ unfolding of_bits neg
 log_normalize-r-requires c =
     let x = c.args.x in
     let i : In lowest largest_finite x = record { low = is_true (le lowest x) c.if-x-2.true; high = is_true (le x largest_finite) c.if-x.true } in
-    record { table_value = c.requires; t = (in_finite i tt, tt) }
+    record { t = (in_finite i tt, tt) }
 
 -- the difference of the two shares
 apart : (x a b : Float) → binary a b ≡ log_normalize x zeroᶠ → a ⊖ b ≡ shares_apart x

@@ -1,65 +1,52 @@
 -- `checks::check` meets its contract. Each check finds a place and decides, or finds none and leaves it to the next.
-use mathlib.Core.List.{[], ◌∷◌, map}
-use mathlib.Core.Option.{none}
-use mathlib.Core.Path.{◌≡◌, sym, ap, ◌∙◌}
-use Rattle.definition.specs.Refusals.{bale_of, outside, least_probability, greatest_probability, too_many, too_small, lowest_place, verdict}
+use Rattle.std.proofs.Common.{sym, ◌∙◌}
+use Rattle.definition.specs.Refusals.{verdict}
 use Rattle.checks.specs.Passed.{sizes-passed}
-use Rattle.checks.specs.Verdicts.{place_of, buffers_of, graph_verdict, skip, stop}
+use Rattle.checks.specs.Verdicts.{graph_verdict, skip, passed, failed, returned}
 use Rattle.checks.proofs.check.Goals as goal
 
-pub returns-in-At : goal.returns-in-At
+pub returns-in_err-refuse : goal.returns-in_err-refuse
 unfolding verdict
-returns-in-At c = sym (stop 1 _ _ _ (sym c.check_sizes.ensures ∙ ap place_of c.in-At.is))
+returns-in_err-refuse c = returned _ _ c.from_residual.ensures.1 ∙ failed 1 _ _ _ _ _ c.in_err-refuse.ensures c.check_sizes.ensures
 
 pub check_buffers-requires : goal.check_buffers-requires
-check_buffers-requires c =
-    let none1 : let a = c.args in lowest_place (too_many 1024 1024 8192 (bale_of a.grades a.evidence.now a.pairs.now) ∷ []) ≡ none = sym c.check_sizes.ensures ∙ ap place_of c.in_default.is in
-    sizes-passed _ none1
+check_buffers-requires c = sizes-passed _ (passed 1 _ _ c.in_ok-refuse.ensures c.check_sizes.ensures)
 
-pub returns-in-At-check_buffers : goal.returns-in-At-check_buffers
+pub returns-in_err-refuse-2 : goal.returns-in_err-refuse-2
 unfolding verdict
-returns-in-At-check_buffers c =
-    let none1 : let a = c.args in lowest_place (too_many 1024 1024 8192 (bale_of a.grades a.evidence.now a.pairs.now) ∷ []) ≡ none = sym c.check_sizes.ensures ∙ ap place_of c.in_default.is in
-    sym
-    (skip 1 _ _ none1
-    ∙ stop 2 _ _ _ (sym c.check_buffers.ensures ∙ ap place_of c.in-At-check_buffers.is))
+returns-in_err-refuse-2 c =
+    returned _ _ c.from_residual-in_err-refuse-2.ensures.1
+    ∙ failed 2 _ _ _ _ _ c.in_err-refuse-2.ensures c.check_buffers.ensures
+    ∙ sym (skip 1 _ _ (passed 1 _ _ c.in_ok-refuse.ensures c.check_sizes.ensures))
 
-pub returns-in-At-check_probabilities : goal.returns-in-At-check_probabilities
+pub returns-in_err-refuse-3 : goal.returns-in_err-refuse-3
 unfolding verdict
-returns-in-At-check_probabilities c =
-    let none1 : let a = c.args in lowest_place (too_many 1024 1024 8192 (bale_of a.grades a.evidence.now a.pairs.now) ∷ []) ≡ none = sym c.check_sizes.ensures ∙ ap place_of c.in_default.is in
-    let none2 : let a = c.args in lowest_place (too_small (buffers_of a.buffers) (bale_of a.grades a.evidence.now a.pairs.now) ∷ []) ≡ none = sym c.check_buffers.ensures ∙ ap place_of c.in_default-check_buffers.is in
-    sym
-    (skip 1 _ _ none1
-    ∙ skip 2 _ _ none2
-    ∙ stop 3 _ _ _ (sym c.check_probabilities.ensures ∙ ap place_of c.in-At-check_probabilities.is))
+returns-in_err-refuse-3 c =
+    returned _ _ c.from_residual-in_err-refuse-3.ensures.1
+    ∙ failed 3 _ _ _ _ _ c.in_err-refuse-3.ensures c.check_probabilities.ensures
+    ∙ sym
+    (skip 1 _ _ (passed 1 _ _ c.in_ok-refuse.ensures c.check_sizes.ensures)
+    ∙ skip 2 _ _ (passed 2 _ _ c.in_ok-refuse-2.ensures c.check_buffers.ensures))
 
-pub returns-in-At-check_stopping : goal.returns-in-At-check_stopping
+pub returns-in_err-refuse-4 : goal.returns-in_err-refuse-4
 unfolding verdict
-returns-in-At-check_stopping c =
-    let none1 : let a = c.args in lowest_place (too_many 1024 1024 8192 (bale_of a.grades a.evidence.now a.pairs.now) ∷ []) ≡ none = sym c.check_sizes.ensures ∙ ap place_of c.in_default.is in
-    let none2 : let a = c.args in lowest_place (too_small (buffers_of a.buffers) (bale_of a.grades a.evidence.now a.pairs.now) ∷ []) ≡ none = sym c.check_buffers.ensures ∙ ap place_of c.in_default-check_buffers.is in
-    let none3 : let a = c.args in lowest_place (map (outside least_probability greatest_probability) (a.alpha ∷ a.beta ∷ a.prior ∷ [])) ≡ none = sym c.check_probabilities.ensures ∙ ap place_of c.in_default-check_probabilities.is in
-    sym
-    (skip 1 _ _ none1
-    ∙ skip 2 _ _ none2
-    ∙ skip 3 _ _ none3
-    ∙ stop 4 _ _ _ (sym c.check_stopping.ensures ∙ ap place_of c.in-At-check_stopping.is))
+returns-in_err-refuse-4 c =
+    returned _ _ c.from_residual-in_err-refuse-4.ensures.1
+    ∙ failed 4 _ _ _ _ _ c.in_err-refuse-4.ensures c.check_stopping.ensures
+    ∙ sym
+    (skip 1 _ _ (passed 1 _ _ c.in_ok-refuse.ensures c.check_sizes.ensures)
+    ∙ skip 2 _ _ (passed 2 _ _ c.in_ok-refuse-2.ensures c.check_buffers.ensures)
+    ∙ skip 3 _ _ (passed 3 _ _ c.in_ok-refuse-3.ensures c.check_probabilities.ensures))
 
 pub check_graph-requires : goal.check_graph-requires
-check_graph-requires c =
-    let none1 : let a = c.args in lowest_place (too_many 1024 1024 8192 (bale_of a.grades a.evidence.now a.pairs.now) ∷ []) ≡ none = sym c.check_sizes.ensures ∙ ap place_of c.in_default.is in
-    sizes-passed _ none1
+check_graph-requires c = sizes-passed _ (passed 1 _ _ c.in_ok-refuse.ensures c.check_sizes.ensures)
 
 pub returns : goal.returns
 unfolding verdict graph_verdict
 returns c =
-    let none1 : let a = c.args in lowest_place (too_many 1024 1024 8192 (bale_of a.grades a.evidence.now a.pairs.now) ∷ []) ≡ none = sym c.check_sizes.ensures ∙ ap place_of c.in_default.is in
-    let none2 : let a = c.args in lowest_place (too_small (buffers_of a.buffers) (bale_of a.grades a.evidence.now a.pairs.now) ∷ []) ≡ none = sym c.check_buffers.ensures ∙ ap place_of c.in_default-check_buffers.is in
-    let none3 : let a = c.args in lowest_place (map (outside least_probability greatest_probability) (a.alpha ∷ a.beta ∷ a.prior ∷ [])) ≡ none = sym c.check_probabilities.ensures ∙ ap place_of c.in_default-check_probabilities.is in
     c.check_graph.ensures
     ∙ sym
-    (skip 1 _ _ none1
-    ∙ skip 2 _ _ none2
-    ∙ skip 3 _ _ none3
-    ∙ skip 4 _ _ (sym c.check_stopping.ensures ∙ ap place_of c.in_default-check_stopping.is))
+    (skip 1 _ _ (passed 1 _ _ c.in_ok-refuse.ensures c.check_sizes.ensures)
+    ∙ skip 2 _ _ (passed 2 _ _ c.in_ok-refuse-2.ensures c.check_buffers.ensures)
+    ∙ skip 3 _ _ (passed 3 _ _ c.in_ok-refuse-3.ensures c.check_probabilities.ensures)
+    ∙ skip 4 _ _ (passed 4 _ _ c.in_ok-refuse-4.ensures c.check_stopping.ensures))

@@ -1,5 +1,5 @@
 -- `checks::is_bad_evidence` meets its contract. The two tests decide `bad_evidence` of one marker.
-use lib.Ieee.{of_bits}
+use Rattle.std.specs.Float.Ieee.{of_bits}
 use Rattle.checks.specs.Tests.{evidence-test}
 use Rattle.checks.proofs.is_bad_evidence.Goals as goal
 
@@ -7,6 +7,6 @@ pub returns-then-is_outside : goal.returns-then-is_outside
 unfolding of_bits
 returns-then-is_outside c = rw (evidence-test _ _ c.requires, ← c.is_outside.ensures, c.if-is_outside.true)
 
-pub returns : goal.returns
+pub returns-else-is_outside : goal.returns-else-is_outside
 unfolding of_bits
-returns c = rw (evidence-test _ _ c.requires, ← c.is_outside.ensures, c.if-is_outside.false) c.is_outside-2.ensures
+returns-else-is_outside c = rw (evidence-test _ _ c.requires, ← c.is_outside.ensures, c.if-is_outside.false) c.is_outside-else-is_outside.ensures

@@ -1,16 +1,12 @@
 -- `checks::is_outside` meets its contract. The two tests decide `outside`.
 use Rattle.definition.specs.Refusals.{outside}
 use Rattle.checks.proofs.is_outside.Goals as goal
-use Rattle.checks.proofs.is_outside.Goals.{else-least-x-via-then-least-x+else-x-greatest, else-least-x-via-else-least-x}
-
-pub returns-then-x-greatest : goal.returns-then-x-greatest
-unfolding outside
-returns-then-x-greatest c = simp (c.if-least-x.true, c.if-x-greatest.true)
+use Rattle.checks.proofs.is_outside.Goals.{then-least-x, else-least-x}
 
 pub returns : goal.returns
 unfolding outside
 returns c =
-    elim c.else-least-x.branch [
-      | else-least-x-via-then-least-x+else-x-greatest w ↦ simp (w.if-least-x.true, w.if-x-greatest.false)
-      | else-least-x-via-else-least-x w ↦ simp w.if-least-x.false
+    elim c.if-least-x.branch [
+      | then-least-x w ↦ simp (w.result-is, w.if-least-x.true)
+      | else-least-x w ↦ simp (w.result-is, w.if-least-x.false)
     ]

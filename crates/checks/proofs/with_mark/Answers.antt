@@ -10,8 +10,3 @@ pub overflow_add-result : goal.overflow_add-result
 overflow_add-result c =
     let e : 1 * 2 ^ c.args.bit % 2 ^ 32 ≡ 1 * 2 ^ c.args.bit = shl_exact 1 c.args.bit 32 (omega arith) (omega arith) in
     omega (arith, e, digit-fits 32 c.args.word c.args.bit (omega arith) c.requires.0 c.requires.1)
-
-pub returns : goal.returns
-returns c =
-    let e : 1 * 2 ^ c.args.bit % 2 ^ 32 ≡ 1 * 2 ^ c.args.bit = shl_exact 1 c.args.bit 32 (omega arith) (omega arith) in
-    omega (arith, e)

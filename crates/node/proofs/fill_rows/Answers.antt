@@ -4,7 +4,7 @@ use mathlib.Core.List.{List, ◌++◌, map}
 use Prim.Native.Nat.{ℕ, ◌+◌, ◌*◌, ◌-◌, ◌<◌}
 use native.Mathlib.Numerals.{add-one}
 use native.Mathlib.Omega.{arith}
-use lib.ListN.{length, length-set, get_or, take, drop}
+use lib.ListN.{length, get_or, take, drop}
 use lib.Seq.{take_all}
 use lib.Ieee.{Float, nan, of_bits}
 use Rattle.list_laws.specs.Part.{length-region}
@@ -37,10 +37,7 @@ unfolding of_bits
 loop-i-init c =
     let a = c.args in
     let w = waiting a.cpd.now c.powers.new.out a.degree (oneᶠ ⊖ a.alpha) c.requires.1 c.powers.ensures in
-    (omega arith, w.0, write-none _ _ _, total-none (sums (cpd_rows (given a.alpha a.beta a.regularised) a.degree)), w)
-
-pub bounds-cpd-row-in-loop-i : goal.bounds-cpd-row-in-loop-i
-bounds-cpd-row-in-loop-i c = simp length-set (omega arith)
+    record { written = write-none _ _ _; sum = total-none (sums (cpd_rows (given a.alpha a.beta a.regularised) a.degree)); waiting = w }
 
 added : (s : Settings) (d i : ℕ) (sum x : Float) → i < d → sum ≡ sum_of (take i (sums (cpd_rows s d))) → x ≡ absent_at s i → sum ⊕ (x ⊕ (oneᶠ ⊖ x)) ≡ sum_of (take (i + 1) (sums (cpd_rows s d)))
 added s d i sum x h e q =
@@ -57,17 +54,14 @@ loop-i-preserved c =
     let s = given a.alpha a.beta a.regularised in
     let h = c.loop-i-test.true in
     let x = c.row_absent-absent.result in
-    let p = kept_above _ b.cpd _ 0 (2 * b.i) (a.degree + b.i) nan b.invariant.2 (omega arith) ∙ b.invariant.4.1 b.i h in
-    let e : x ≡ absent_at s b.i = c.row_absent-absent.ensures ∙ absent_of_lem a.alpha a.beta _ a.regularised b.i p in (
-      omega arith,
-      simp length-set b.invariant.1,
-      start_pair _ b.cpd (entry_at s a.degree) b.i x (oneᶠ ⊖ x) b.invariant.2 (e ∙ sym (even_at s a.degree b.i h)) (ap (λ (y : Float). oneᶠ ⊖ y) e ∙ sym (odd-at s a.degree b.i h)),
-      added s a.degree b.i b.sum x h b.invariant.3 e,
-      b.invariant.4,
-    )
-
-pub shape_of-cpd : goal.shape_of-cpd
-shape_of-cpd c = c.loop-i.invariant.1 ∙ sym c.requires.1
+    let v = b.invariant in
+    let p = kept_above _ b.cpd _ 0 (2 * b.i) (a.degree + b.i) nan v.written (omega arith) ∙ v.waiting.1 b.i h in
+    let e : x ≡ absent_at s b.i = c.row_absent-absent.ensures ∙ absent_of_lem a.alpha a.beta _ a.regularised b.i p in
+    record {
+      written = start_pair _ b.cpd (entry_at s a.degree) b.i x (oneᶠ ⊖ x) v.written (e ∙ sym (even_at s a.degree b.i h)) (ap (λ (y : Float). oneᶠ ⊖ y) e ∙ sym (odd-at s a.degree b.i h));
+      sum = added s a.degree b.i b.sum x h v.sum e;
+      waiting = v.waiting;
+    }
 
 pub returns : goal.returns
 unfolding sum_of
@@ -76,6 +70,6 @@ returns c =
     let a = c.args in
     let s = given a.alpha a.beta a.regularised in
     let e : b.i ≡ a.degree = omega arith in (
-      whole-written nan _ b.cpd (flat_rows (cpd_rows s a.degree)) (2 * b.i) (2 * a.degree) b.invariant.2 (ap (λ (k : ℕ). 2 * k) e) b.invariant.4.0 (length-rows s a.degree),
-      b.invariant.3 ∙ ap sum_of (take_all b.i (sums (cpd_rows s a.degree)) (omega (arith, length-sums s a.degree))),
+      whole-written nan _ b.cpd (flat_rows (cpd_rows s a.degree)) (2 * b.i) (2 * a.degree) b.invariant.written (ap (λ (k : ℕ). 2 * k) e) b.invariant.waiting.0 (length-rows s a.degree),
+      b.invariant.sum ∙ ap sum_of (take_all b.i (sums (cpd_rows s a.degree)) (omega (arith, length-sums s a.degree))),
     )

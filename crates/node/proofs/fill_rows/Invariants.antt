@@ -1,9 +1,7 @@
 -- `node::fill_rows` meets its contract: after i turns the first i rows are written, over no power that still waits, and the sum is theirs.
-use mathlib.Core.Path.{◌≡◌}
-use mathlib.Core.List.{List}
-use Prim.Native.Nat.{ℕ, ◌+◌, ◌*◌, ◌-◌, ◌≤◌, ◌<◌}
-use lib.ListN.{length, get_or, take}
-use lib.Ieee.{Float, nan}
+use Rattle.std.proofs.Common.{◌≡◌, List, ℕ, ◌+◌, ◌*◌, ◌<◌, length, get_or, take}
+use Rattle.std.specs.Prelude.{Float}
+use Rattle.std.specs.Float.{nan}
 use Rattle.list_laws.specs.Write.{write}
 use Rattle.definition.specs.Floats.{◌⊖◌, oneᶠ, powi}
 use Rattle.definition.specs.Vectors.{sum_of}
@@ -21,12 +19,8 @@ abbrev pub entry_at : Settings → ℕ → ℕ → Float
 entry_at s d k = get_or (flat_rows (cpd_rows s d)) k nan
 
 abbrev pub invariant-loop-i : goal.invariant-loop-i
-invariant-loop-i l =
-    (l.i ≤ l.degree)
-    × (length l.cpd ≡ 2 * l.degree)
-    × (l.cpd ≡ write l.initial.cpd 0 (2 * l.i) (entry_at (given l.alpha l.beta l.regularised) l.degree))
-    × (l.sum ≡ sum_of (take l.i (sums (cpd_rows (given l.alpha l.beta l.regularised) l.degree))))
-    × Waiting l.degree (oneᶠ ⊖ l.alpha) l.initial.cpd
-
-abbrev pub decreases-loop-i : goal.decreases-loop-i
-decreases-loop-i l = l.degree - l.i
+invariant-loop-i l = record {
+  written : l.cpd ≡ write l.initial.cpd 0 (2 * l.i) (entry_at (given l.alpha l.beta l.regularised) l.degree);
+  sum : l.sum ≡ sum_of (take l.i (sums (cpd_rows (given l.alpha l.beta l.regularised) l.degree)));
+  waiting : Waiting l.degree (oneᶠ ⊖ l.alpha) l.initial.cpd;
+}

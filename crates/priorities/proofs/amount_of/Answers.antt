@@ -5,11 +5,7 @@ use Prim.Native.Nat.{◌-◌}
 use native.Mathlib.Omega.{arith}
 use lib.Dec.{T}
 use Rattle.float_laws.specs.BitsLess.{no_nan-bits}
-use Rattle.priorities.specs.Keys.{decode_key_lem}
 use Rattle.priorities.proofs.amount_of.Goals as goal
 
 pub float_from_bits-result : goal.float_from_bits-result
 float_from_bits-result c = subst (λ (b : Bool). T (not b)) (sym (no_nan-bits (c.args.key - 1) (omega arith))) tt
-
-pub returns : goal.returns
-returns c = decode_key_lem c.args.key c.requires.0

@@ -1,10 +1,7 @@
 -- `priorities::first_largest` meets its contract: a descent from the root.
 use native.Mathlib.Omega.{arith}
-use Rattle.priorities.specs.Descent.{descent_start, descent_left, descent_right, descent_end}
+use Rattle.priorities.specs.Descent.{descent_left, descent_right, descent_end}
 use Rattle.priorities.proofs.first_largest.Goals as goal
-
-pub loop-k-init : goal.loop-k-init
-loop-k-init c = (omega arith, omega (arith, c.requires.tree.wide), descent_start c.args.words.now c.args.w c.requires.full)
 
 pub loop-k-preserved-then-words-k : goal.loop-k-preserved-then-words-k
 loop-k-preserved-then-words-k c = (

@@ -1,74 +1,46 @@
 -- `readers::check` meets its contract. Each check decides, or leaves it to the next.
-use Prim.Native.Nat.{◌*◌, ◌/◌, ◌≤◌, ◌<◌}
-use mathlib.Core.Option.{none, some}
-use mathlib.Core.Path.{◌≡◌, sym, ap, subst, ◌∙◌}
-use lib.ListN.{length}
-use Rattle.definition.specs.Refusals.{lowest_place}
+use Rattle.std.proofs.Common.{ℕ, ◌/◌, ◌*◌, ◌≤◌, ◌<◌, ◌≡◌, min, List, length, arith, sym, ap, ◌∙◌}
 use Rattle.definition.specs.Readers.{reads_of, lesser, falls}
-use Rattle.readers_laws.specs.Table.{lesser_cases}
 use Rattle.readers.specs.Slices.{falls_count}
-use Rattle.checks.specs.Verdicts.{place_of}
-use Rattle.readers.specs.Verdicts.{place-there, many_upper_lem, many-lower, small_buffer_lem, upper_falls_lem, lower-falls, none-falls}
-use native.Mathlib.Omega.{arith}
+use Rattle.checks.specs.Verdicts.{place_of, passed, returned}
+use Rattle.readers.specs.Verdicts.{place-there, lesser_is, many_upper_lem, many-lower, small_buffer_lem, upper_refused, lower-falls, none-falls}
 use Rattle.readers.proofs.check.Goals as goal
-
--- past numbers 1 and 2
+use Rattle.readers.proofs.check.Goals.{then-uppers-gt1024-via-then-uppers-gt1024, then-uppers-gt1024-via-else-uppers-gt1024+then-lowers-gt1024}
 
 pub returns-then-uppers-gt1024 : goal.returns-then-uppers-gt1024
-returns-then-uppers-gt1024 c = many_upper_lem _ _ _ c.if-uppers-gt1024.true
+returns-then-uppers-gt1024 c =
+    elim c.then-uppers-gt1024.branch [
+      | then-uppers-gt1024-via-then-uppers-gt1024 w ↦ many_upper_lem _ _ _ w.if-uppers-gt1024.true
+      | then-uppers-gt1024-via-else-uppers-gt1024+then-lowers-gt1024 w ↦ many-lower _ _ _ w.if-uppers-gt1024.false w.if-lowers-gt1024.true
+    ]
 
-pub returns-then-lowers-gt1024 : goal.returns-then-lowers-gt1024
-returns-then-lowers-gt1024 c = many-lower _ _ _ c.if-uppers-gt1024.false c.if-lowers-gt1024.true
-
-pub overflow_mul-shorter : goal.overflow_mul-shorter
-overflow_mul-shorter c =
+pub returns-then-size-min : goal.returns-then-size-min
+returns-then-size-min c =
     let a = c.args in
-    let l : c.shorter.result ≤ 1024 = subst (λ n. n ≤ 1024) (sym c.shorter.ensures) (lesser_cases (λ n. n ≤ 1024) _ _ c.if-uppers-gt1024.false c.if-lowers-gt1024.false) in
-    omega arith
+    let l : a.size < 2 * lesser (length a.upper.now / 2) (length a.lower.now / 2) = rw (← lesser_is) (omega arith) in
+    small_buffer_lem _ _ _ c.if-uppers-gt1024.false c.if-lowers-gt1024.false l
 
-pub returns-then-size-shorter : goal.returns-then-size-shorter
-returns-then-size-shorter c =
-    let a = c.args in
-    small_buffer_lem _ _ _ c.if-uppers-gt1024.false c.if-lowers-gt1024.false (subst (λ n. a.size < 2 * n) c.shorter.ensures c.if-size-shorter.true)
+-- past numbers 1 and 2
+room : (upper lower : List ℕ) (size m : ℕ) → m ≡ min (length upper / 2) (length lower / 2) → 2 * m ≤ size → 2 * lesser (length upper / 2) (length lower / 2) ≤ size
+room upper lower size m e l = rw (← lesser_is) (omega arith)
 
-pub first_fall-requires : goal.first_fall-requires
-first_fall-requires c = c.if-uppers-gt1024.false
-
-pub returns-in-At : goal.returns-in-At
-returns-in-At c =
-    let few_upper : length c.args.upper.now / 2 ≤ 1024 = c.if-uppers-gt1024.false in
-    let few_lower : length c.args.lower.now / 2 ≤ 1024 = c.if-lowers-gt1024.false in
-    let room : 2 * lesser (length c.args.upper.now / 2) (length c.args.lower.now / 2) ≤ c.args.size = subst (λ n. 2 * n ≤ c.args.size) c.shorter.ensures c.if-size-shorter.false in
-    let found_upper : lowest_place (falls (reads_of c.args.upper.now)) ≡ some c.in-At.i = sym c.first_fall.ensures ∙ ap place_of c.in-At.is in
-    upper_falls_lem _ _ _ few_upper few_lower room _ found_upper
-
-pub overflow_cast-result : goal.overflow_cast-result
-overflow_cast-result c =
-    let few_upper : length c.args.upper.now / 2 ≤ 1024 = c.if-uppers-gt1024.false in
-    omega (arith, few_upper)
+pub returns-in_err-refuse : goal.returns-in_err-refuse
+returns-in_err-refuse c =
+    returned _ _ c.from_residual.ensures.1
+    ∙ upper_refused _ _ _ c.if-uppers-gt1024.false c.if-lowers-gt1024.false (room _ _ _ _ c.min.ensures c.if-size-min.false) _ _ _ c.first_fall.ensures
+    c.in_err-refuse.ensures
 
 pub overflow_add-result : goal.overflow_add-result
 overflow_add-result c =
-    let few_upper : length c.args.upper.now / 2 ≤ 1024 = c.if-uppers-gt1024.false in
-    let few_lower : length c.args.lower.now / 2 ≤ 1024 = c.if-lowers-gt1024.false in
-    let found_lower : lowest_place (falls (reads_of c.args.lower.now)) ≡ some c.in-At-first_fall.j = sym c.first_fall-2.ensures ∙ ap place_of c.in-At-first_fall.is in
     let l = c.args.lower.now in
-    omega (arith, place-there (falls (reads_of l)) _ found_lower, falls_count l, few_upper, few_lower)
+    omega (arith, place-there (falls (reads_of l)) _ (sym c.first_fall-2.ensures ∙ ap place_of c.in-Some.is), falls_count l)
 
-pub returns-in-At-first_fall : goal.returns-in-At-first_fall
-returns-in-At-first_fall c =
-    let few_upper : length c.args.upper.now / 2 ≤ 1024 = c.if-uppers-gt1024.false in
-    let few_lower : length c.args.lower.now / 2 ≤ 1024 = c.if-lowers-gt1024.false in
-    let room : 2 * lesser (length c.args.upper.now / 2) (length c.args.lower.now / 2) ≤ c.args.size = subst (λ n. 2 * n ≤ c.args.size) c.shorter.ensures c.if-size-shorter.false in
-    let none_upper : lowest_place (falls (reads_of c.args.upper.now)) ≡ none = sym c.first_fall.ensures ∙ ap place_of c.in_default.is in
-    let found_lower : lowest_place (falls (reads_of c.args.lower.now)) ≡ some c.in-At-first_fall.j = sym c.first_fall-2.ensures ∙ ap place_of c.in-At-first_fall.is in
-    lower-falls _ _ _ few_upper few_lower room none_upper _ found_lower
+pub returns-in-Some : goal.returns-in-Some
+returns-in-Some c =
+    lower-falls _ _ _ c.if-uppers-gt1024.false c.if-lowers-gt1024.false (room _ _ _ _ c.min.ensures c.if-size-min.false)
+    (passed 10 _ _ c.in_ok-refuse.ensures c.first_fall.ensures) _ (sym c.first_fall-2.ensures ∙ ap place_of c.in-Some.is)
 
 pub returns : goal.returns
 returns c =
-    let few_upper : length c.args.upper.now / 2 ≤ 1024 = c.if-uppers-gt1024.false in
-    let few_lower : length c.args.lower.now / 2 ≤ 1024 = c.if-lowers-gt1024.false in
-    let room : 2 * lesser (length c.args.upper.now / 2) (length c.args.lower.now / 2) ≤ c.args.size = subst (λ n. 2 * n ≤ c.args.size) c.shorter.ensures c.if-size-shorter.false in
-    let none_upper : lowest_place (falls (reads_of c.args.upper.now)) ≡ none = sym c.first_fall.ensures ∙ ap place_of c.in_default.is in
-    none-falls _ _ _ few_upper few_lower room none_upper
-    (sym c.first_fall-2.ensures ∙ ap place_of c.in_default-first_fall.is)
+    none-falls _ _ _ c.if-uppers-gt1024.false c.if-lowers-gt1024.false (room _ _ _ _ c.min.ensures c.if-size-min.false)
+    (passed 10 _ _ c.in_ok-refuse.ensures c.first_fall.ensures) (sym c.first_fall-2.ensures ∙ ap place_of c.in_default.is)

@@ -1,78 +1,54 @@
 -- `readers::match_next` meets its contract. What the search finds is what the definition finds for upper read i.
-use Prim.Native.Nat.{◌+◌, ◌*◌, ◌≤◌, ◌<◌}
-use mathlib.Core.Option.{some}
-use mathlib.Core.Path.{◌≡◌, sym, ap, ◌∙◌}
-use lib.ListN.{length, length-set}
+use Rattle.std.proofs.Common.{ℕ, ◌+◌, ◌*◌, ◌<◌, ◌≤◌, ◌≡◌, Option, Some, List, length, arith, sym, ap, ◌∙◌}
+use Rattle.std.proofs.Math.ListN.{length-set}
 use Rattle.definition.specs.Refusals.{lowest_place}
 use Rattle.definition.specs.Readers.{reads_of}
 use Rattle.checks.specs.Verdicts.{place_of}
 use Rattle.readers.specs.Slices.{read_in}
 use Rattle.readers.specs.Scan.{open_tests}
-use Rattle.readers.specs.Turns.{turned_none, found_there, has_room, turned_some}
-use native.Mathlib.Omega.{arith}
+use Rattle.readers.specs.Turns.{Turnable, turned_none, found_there, has_room, turned_some}
 use Rattle.readers.proofs.match_next.Goals as goal
 
 -- where a lower read was found
+module _ {upper lower : List ℕ} {w i first count : ℕ} {marks answer : List ℕ} (t : Turnable upper lower w i first count marks answer) {j : ℕ} {o : Option ℕ} (is : o ≡ Some j)
+    (e : place_of o ≡ lowest_place (open_tests w (reads_of lower) marks (read_in upper i))) where
+  there : j < 1024
+  there = omega (arith, found_there upper lower w i first count marks answer t j (sym (ap place_of is) ∙ e), t.lower_few)
+
+  room : 2 * count + 2 ≤ length answer
+  room = has_room upper lower w i first count marks answer t j (sym (ap place_of is) ∙ e)
 
 pub bounds-marks-j : goal.bounds-marks-j
-bounds-marks-j c =
-    let found : let a = c.args in some c.in-At.j ≡ lowest_place (open_tests a.window (reads_of a.lower.now) a.marks.now (read_in a.upper.now a.i)) = sym (ap place_of c.in-At.is) ∙ c.find.ensures in
-    let there : c.in-At.j < 1024 = let a = c.args in omega (arith, found_there a.upper.now a.lower.now a.window a.i a.first a.count a.marks.now a.answer.now c.requires _ found, c.requires.lower_few) in
-    there
+bounds-marks-j c = there c.requires c.in-Some.is c.find.ensures
 
 pub overflow_mul-answer : goal.overflow_mul-answer
-overflow_mul-answer c =
-    let found : let a = c.args in some c.in-At.j ≡ lowest_place (open_tests a.window (reads_of a.lower.now) a.marks.now (read_in a.upper.now a.i)) = sym (ap place_of c.in-At.is) ∙ c.find.ensures in
-    let room : 2 * c.args.count + 2 ≤ length c.args.answer.now = let a = c.args in has_room a.upper.now a.lower.now a.window a.i a.first a.count a.marks.now a.answer.now c.requires _ found in
-    omega (arith, room)
+overflow_mul-answer c = omega (arith, room c.requires c.in-Some.is c.find.ensures)
 
 pub offset_bounds-answer-count : goal.offset_bounds-answer-count
-offset_bounds-answer-count c =
-    let found : let a = c.args in some c.in-At.j ≡ lowest_place (open_tests a.window (reads_of a.lower.now) a.marks.now (read_in a.upper.now a.i)) = sym (ap place_of c.in-At.is) ∙ c.find.ensures in
-    let room : 2 * c.args.count + 2 ≤ length c.args.answer.now = let a = c.args in has_room a.upper.now a.lower.now a.window a.i a.first a.count a.marks.now a.answer.now c.requires _ found in
-    omega (arith, room)
+offset_bounds-answer-count c = omega (arith, room c.requires c.in-Some.is c.find.ensures)
 
 pub bounds-answer-count : goal.bounds-answer-count
-bounds-answer-count c =
-    let found : let a = c.args in some c.in-At.j ≡ lowest_place (open_tests a.window (reads_of a.lower.now) a.marks.now (read_in a.upper.now a.i)) = sym (ap place_of c.in-At.is) ∙ c.find.ensures in
-    let room : 2 * c.args.count + 2 ≤ length c.args.answer.now = let a = c.args in has_room a.upper.now a.lower.now a.window a.i a.first a.count a.marks.now a.answer.now c.requires _ found in
-    omega (arith, room)
+bounds-answer-count c = omega (arith, room c.requires c.in-Some.is c.find.ensures)
 
-pub overflow_mul-answer-in-At : goal.overflow_mul-answer-in-At
-overflow_mul-answer-in-At c =
-    let found : let a = c.args in some c.in-At.j ≡ lowest_place (open_tests a.window (reads_of a.lower.now) a.marks.now (read_in a.upper.now a.i)) = sym (ap place_of c.in-At.is) ∙ c.find.ensures in
-    let room : 2 * c.args.count + 2 ≤ length c.args.answer.now = let a = c.args in has_room a.upper.now a.lower.now a.window a.i a.first a.count a.marks.now a.answer.now c.requires _ found in
-    omega (arith, room)
+pub overflow_mul-answer-in-Some : goal.overflow_mul-answer-in-Some
+overflow_mul-answer-in-Some c = omega (arith, room c.requires c.in-Some.is c.find.ensures)
 
 pub overflow_add-answer : goal.overflow_add-answer
-overflow_add-answer c =
-    let found : let a = c.args in some c.in-At.j ≡ lowest_place (open_tests a.window (reads_of a.lower.now) a.marks.now (read_in a.upper.now a.i)) = sym (ap place_of c.in-At.is) ∙ c.find.ensures in
-    let room : 2 * c.args.count + 2 ≤ length c.args.answer.now = let a = c.args in has_room a.upper.now a.lower.now a.window a.i a.first a.count a.marks.now a.answer.now c.requires _ found in
-    omega (arith, room)
+overflow_add-answer c = omega (arith, room c.requires c.in-Some.is c.find.ensures)
 
-pub offset_bounds-answer-count-in-At : goal.offset_bounds-answer-count-in-At
-offset_bounds-answer-count-in-At c =
-    let found : let a = c.args in some c.in-At.j ≡ lowest_place (open_tests a.window (reads_of a.lower.now) a.marks.now (read_in a.upper.now a.i)) = sym (ap place_of c.in-At.is) ∙ c.find.ensures in
-    let room : 2 * c.args.count + 2 ≤ length c.args.answer.now = let a = c.args in has_room a.upper.now a.lower.now a.window a.i a.first a.count a.marks.now a.answer.now c.requires _ found in
-    omega (arith, room)
+pub offset_bounds-answer-count-in-Some : goal.offset_bounds-answer-count-in-Some
+offset_bounds-answer-count-in-Some c = omega (arith, room c.requires c.in-Some.is c.find.ensures)
 
-pub bounds-answer-count-in-At : goal.bounds-answer-count-in-At
-bounds-answer-count-in-At c =
-    let found : let a = c.args in some c.in-At.j ≡ lowest_place (open_tests a.window (reads_of a.lower.now) a.marks.now (read_in a.upper.now a.i)) = sym (ap place_of c.in-At.is) ∙ c.find.ensures in
-    let room : 2 * c.args.count + 2 ≤ length c.args.answer.now = let a = c.args in has_room a.upper.now a.lower.now a.window a.i a.first a.count a.marks.now a.answer.now c.requires _ found in
-    simp length-set (omega (arith, room))
+pub bounds-answer-count-in-Some : goal.bounds-answer-count-in-Some
+bounds-answer-count-in-Some c = simp length-set (omega (arith, room c.requires c.in-Some.is c.find.ensures))
 
 pub overflow_add-result : goal.overflow_add-result
-overflow_add-result c =
-    let found : let a = c.args in some c.in-At.j ≡ lowest_place (open_tests a.window (reads_of a.lower.now) a.marks.now (read_in a.upper.now a.i)) = sym (ap place_of c.in-At.is) ∙ c.find.ensures in
-    let room : 2 * c.args.count + 2 ≤ length c.args.answer.now = let a = c.args in has_room a.upper.now a.lower.now a.window a.i a.first a.count a.marks.now a.answer.now c.requires _ found in
-    omega (arith, room)
+overflow_add-result c = omega (arith, room c.requires c.in-Some.is c.find.ensures)
 
-pub returns-in-At : goal.returns-in-At
-returns-in-At c =
-    let found : let a = c.args in some c.in-At.j ≡ lowest_place (open_tests a.window (reads_of a.lower.now) a.marks.now (read_in a.upper.now a.i)) = sym (ap place_of c.in-At.is) ∙ c.find.ensures in
+pub returns-in-Some : goal.returns-in-Some
+returns-in-Some c =
     let a = c.args in
-    turned_some a.upper.now a.lower.now a.window a.i a.first a.count a.marks.now a.answer.now c.requires _ found
+    turned_some a.upper.now a.lower.now a.window a.i a.first a.count a.marks.now a.answer.now c.requires _ (sym (ap place_of c.in-Some.is) ∙ c.find.ensures)
 
 pub returns : goal.returns
 returns c =

@@ -1,11 +1,9 @@
 -- `whole_part` meets its contract: from 2 ^ -21 to 1 the exponent's field goes from 106 to 127.
 use mathlib.Core.Path.{sym, subst}
-use Prim.Native.Nat.{ℕ, ◌*◌, ◌^◌, ◌≤◌, ◌<◌}
-use native.Mathlib.Nat.{le_trans, mul-le-mul_left, mul-le-mul_right}
+use Prim.Native.Nat.{◌≤◌}
 use native.Mathlib.Omega.{arith}
 use lib.Dec.{T}
 use lib.Ieee.{binary32, fits, of_bits, to_bits}
-use Rattle.float_laws.specs.Interval.{in_number}
 use Rattle.weighing_laws.specs.Shares.{share-none, bits-from, bits-upto, share-by-digits}
 use Rattle.shares.proofs.whole_part.Goals as goal
 use Rattle.shares.proofs.whole_part.Goals.{Else-present, Start}
@@ -25,16 +23,6 @@ high c = bits-upto c.args.present (held c.before) c.requires.1 c.if-present.fals
 pub returns-then-present : goal.returns-then-present
 unfolding of_bits
 returns-then-present c = sym (share-none c.args.grams c.args.present c.requires.0 c.if-present.true)
-
-pub float_to_bits-bits : goal.float_to_bits-bits
-float_to_bits-bits c = in_number c.requires.1
-
--- 2,000,000 times less than 2 ^ 24
-product-fits : (w d : ℕ) → w ≤ 2000000 → d ≤ 16777216 → w * d < 2 ^ 64
-product-fits w d h k = let l : w * d ≤ 2000000 * 16777216 = le_trans (mul-le-mul_right d h) (mul-le-mul_left 2000000 k) in omega arith
-
-pub overflow_mul-result : goal.overflow_mul-result
-overflow_mul-result c = record { fits = product-fits _ _ c.requires.0 (omega arith) }
 
 pub overflow_sub-result : goal.overflow_sub-result
 overflow_sub-result c = omega (arith, high c)

@@ -1,23 +1,25 @@
 -- `tonnage_by_grade` meets its contract.
-use mathlib.Core.List.{List}
-use mathlib.Core.Path.{◌≡◌, sym, ap, ◌∙◌}
-use Prim.Native.Nat.{ℕ}
-use Rattle.definition.specs.Tonnage.{Weighing}
-use Rattle.tonnage.specs.Standings.{weighing_with}
+use Rattle.std.proofs.Common.{◌++◌, drop, sym, ap, ◌∙◌, length-take-le}
 use Rattle.tonnage.specs.Reply.{reply_short, reply_weighed, reply_refused}
-use Rattle.tonnage.specs.declared.tally.Outcome.{Outcome}
 use Rattle.tonnage.proofs.tonnage_by_grade.Goals as goal
-
--- where the outcome is known
-told : (r q : Outcome) (us : List ℕ) (x : Weighing) → r ≡ q → weighing_with r us ≡ x → weighing_with q us ≡ x
-told r q us x e h = ap (λ (o : Outcome). weighing_with o us) (sym e) ∙ h
+use Rattle.tonnage.proofs.tonnage_by_grade.Goals.{then-is_ok, else-is_ok}
 
 pub returns-then-totals-lt-GRADES : goal.returns-then-totals-lt-GRADES
-returns-then-totals-lt-GRADES c = reply_short _ _ _ c.if-totals-lt-GRADES.true
+returns-then-totals-lt-GRADES c = rw c.from.ensures (reply_short _ _ _ c.if-totals-lt-GRADES.true)
 
-pub returns-in-Weighed : goal.returns-in-Weighed
-returns-in-Weighed c =
-    reply_weighed _ _ _ c.if-totals-lt-GRADES.false _ _ _ (told _ _ _ _ c.in-Weighed.is c.weigh_shift.ensures) c.set_totals.ensures
+pub copy_from_slice-requires : goal.copy_from_slice-requires
+copy_from_slice-requires c = length-take-le 1024 _ c.if-totals-lt-GRADES.false ∙ sym c.weigh_shift-weighed.auto.sums
 
-pub returns-in-Refused : goal.returns-in-Refused
-returns-in-Refused c = reply_refused _ _ _ c.if-totals-lt-GRADES.false _ _ (told _ _ _ _ c.in-Refused.is c.weigh_shift.ensures)
+pub returns : goal.returns
+returns c =
+    let long = c.if-totals-lt-GRADES.false in
+    let w = c.weigh_shift-weighed in
+    rw c.from-2.ensures
+    (elim c.if-is_ok.branch [
+      | then-is_ok k ↦
+          let sums = w.new.sums in
+          let totals = c.args.totals.now in
+          reply_weighed _ _ _ _ sums _ long w.ensures (sym c.is_ok.ensures.value ∙ k.if-is_ok.true)
+          (k.totals-is ∙ ap (λ vs. vs ++ drop 1024 totals) k.copy_from_slice.ensures.after ∙ ap (λ n. sums ++ drop n totals) (sym w.auto.sums))
+      | else-is_ok k ↦ rw k.totals-is (reply_refused _ _ _ _ w.new.sums long w.ensures (sym c.is_ok.ensures.value ∙ k.if-is_ok.false))
+    ])

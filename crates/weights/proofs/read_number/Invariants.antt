@@ -1,11 +1,6 @@
 -- `weights::read_number` meets its contract. The loop's invariant: what is read so far, and the bytes from place i on, give the whole number.
-use Prim.Native.Nat.{◌-◌}
-use lib.ListN.{length}
 use Rattle.weights.specs.Reading.{Reading}
 use Rattle.weights.proofs.read_number.Given as goal
 
 abbrev pub invariant-loop-i : goal.invariant-loop-i
-invariant-loop-i l = Reading l.most l.end l.csv l.at l.first l.value l.i
-
-abbrev pub decreases-loop-i : goal.decreases-loop-i
-decreases-loop-i l = length l.csv - l.i
+invariant-loop-i l = Reading l.most l.end l.csv l.at l.read l.i

@@ -1,12 +1,8 @@
 -- `array_utils::message::column_products` meets its contract: after i turns the products are those of the first i pairs.
-use mathlib.Core.Path.{◌≡◌, sym, ap, ◌∙◌}
-use mathlib.Core.List.{List}
-use Prim.Native.Nat.{ℕ, ◌+◌, ◌*◌, ◌/◌, ◌≤◌, ◌<◌}
-use native.Mathlib.Numerals.{add-one}
-use native.Mathlib.Omega.{arith}
-use lib.ListN.{length, take, get_or}
-use lib.Seq.{take_all}
-use lib.Ieee.{Float, nan, of_bits}
+use Rattle.std.proofs.Common.{◌≡◌, sym, ap, ◌∙◌, List, ℕ, ◌+◌, ◌*◌, ◌/◌, ◌≤◌, ◌<◌, add-one, arith, length, take, get_or, take_all}
+use Rattle.std.specs.Prelude.{Float}
+use Rattle.std.specs.Float.{nan}
+use lib.Ieee.{of_bits}
 use Rattle.definition.specs.Floats.{◌⊗◌}
 use Rattle.definition.specs.Vectors.{product_of}
 use Rattle.array_utils.specs.VectorLaws.{product-none, product_step}
@@ -16,10 +12,12 @@ use Rattle.array_utils.proofs.message.column_products.Goals as goal
 
 pub loop-i-init : goal.loop-i-init
 unfolding of_bits
-loop-i-init c = let l = c.args.rows.now in (omega arith, product-none (absents l), product-none (presents l))
+loop-i-init c = let l = c.args.rows.now in (product-none (absents l), product-none (presents l))
 
 -- one more pair
-more : (pick : Float → Float → Float) (l : List Float) (i : ℕ) (p : Float) → i < length l / 2 → p ≡ product_of (take i (column pick l)) → p ⊗ pick (get_or l (2 * i) nan) (get_or l (2 * i + 1) nan) ≡ product_of (take (i + 1) (column pick l))
+more :
+    (pick : Float → Float → Float) (l : List Float) (i : ℕ) (p : Float) →
+    i < length l / 2 → p ≡ product_of (take i (column pick l)) → p ⊗ pick (get_or l (2 * i) nan) (get_or l (2 * i + 1) nan) ≡ product_of (take (i + 1) (column pick l))
 more pick l i p h e =
     let x = pick (get_or l (2 * i) nan) (get_or l (2 * i + 1) nan) in
     ap (λ (q : Float). q ⊗ x) e
@@ -34,11 +32,10 @@ pub loop-i-preserved : goal.loop-i-preserved
 loop-i-preserved c =
     let s = c.loop-i in
     let l = c.args.rows.now in
-    let h = c.loop-i-test.true in
-    (omega arith, more columns.absent l s.i s.absent h s.invariant.1, more columns.present l s.i s.present h s.invariant.2)
+    (more columns.absent l s.i s.absent (omega arith) s.invariant.0, more columns.present l s.i s.present (omega arith) s.invariant.1)
 
 pub returns : goal.returns
 returns c =
     let s = c.loop-i in
     let l = c.args.rows.now in
-    (all columns.absent l s.i s.absent (omega arith) s.invariant.1, all columns.present l s.i s.present (omega arith) s.invariant.2)
+    (all columns.absent l s.i s.absent (omega arith) s.invariant.0, all columns.present l s.i s.present (omega arith) s.invariant.1)

@@ -1,15 +1,10 @@
 -- `array_utils::power::powi` meets its contract: the product so far times the power that is left is the power.
-use mathlib.Core.Path.{refl, ◌∙◌}
+use mathlib.Core.Path.{◌∙◌}
 use native.Mathlib.Omega.{arith}
-use lib.Ieee.{of_bits}
 use Rattle.definition.specs.Floats.{powi}
 use Rattle.array_utils.specs.PowerLaws.{power_zero, power_one, power_odd, power_even}
 use Rattle.array_utils.proofs.power.powi.Goals as goal
 use Rattle.array_utils.proofs.power.powi.Goals.{then-rest-eq1, else-rest-eq1}
-
-pub loop-rest-init : goal.loop-rest-init
-unfolding of_bits
-loop-rest-init c = refl
 
 pub loop-rest-preserved : goal.loop-rest-preserved
 loop-rest-preserved c =

@@ -1,9 +1,12 @@
 -- `refusals::check_size` meets its contract.
-use Rattle.bale_answer.specs.Checks.{size-large, size_small}
+use Rattle.std.proofs.Common.{sym}
+use Rattle.definition.specs.Refusals.{or_refused, lowest_place, lowest_place_from}
 use Rattle.bale_answer.proofs.refusals.check_size.Goals as goal
 
 pub returns-then-is_too_many : goal.returns-then-is_too_many
-returns-then-is_too_many c = size-large c.args.decoder _ _ c.grade_count-grades.ensures c.is_too_many.ensures c.if-is_too_many.true
+unfolding or_refused lowest_place lowest_place_from
+returns-then-is_too_many c = rw (sym c.grade_count-grades.ensures, sym c.is_too_many.ensures, c.if-is_too_many.true)
 
 pub returns : goal.returns
-returns c = size_small c.args.decoder _ _ c.grade_count-grades.ensures c.is_too_many.ensures c.if-is_too_many.false
+unfolding or_refused lowest_place lowest_place_from
+returns c = rw (sym c.grade_count-grades.ensures, sym c.is_too_many.ensures, c.if-is_too_many.false)

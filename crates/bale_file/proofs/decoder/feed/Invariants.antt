@@ -1,16 +1,8 @@
 -- `bale_file::decoder::feed` meets its contract. The loop's invariant: feeding the bytes that are left gives what feeding all gives.
-use Prim.Native.Nat.{◌≤◌, ◌-◌}
-use mathlib.Core.Path.{◌≡◌}
-use lib.ListN.{length, drop}
+use Rattle.std.specs.Prelude.{◌≡◌, drop}
 use Rattle.bale_file.specs.Decoder.{fed_of, fed}
 use Rattle.bale_file.proofs.decoder.feed.Given as goal
 
-abbrev pub invariant-loop-i : goal.invariant-loop-i
-invariant-loop-i l =
-    (l.i ≤ length l.bytes)
-    × (fed (drop l.i l.bytes) (fed_of l.d l.markers l.pairs) ≡ fed l.bytes (fed_of l.initial.d l.initial.markers l.initial.pairs))
-    × (length l.markers ≡ length l.initial.markers)
-    × (length l.pairs ≡ length l.initial.pairs)
-
-abbrev pub decreases-loop-i : goal.decreases-loop-i
-decreases-loop-i l = length l.bytes - l.i
+abbrev pub invariant-loop-byte : goal.invariant-loop-byte
+invariant-loop-byte l =
+    fed (drop l.byte-index l.bytes) (fed_of l.d l.markers l.pairs) ≡ fed l.bytes (fed_of l.initial.d l.initial.markers l.initial.pairs)

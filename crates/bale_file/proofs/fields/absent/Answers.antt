@@ -14,9 +14,6 @@ returns-then-base-eq0 c =
     let a = c.args in
     c.bare_absent.ensures ∙ ap (λ (r : Option ℕ). (evidence_of r a.word).absent) (rate_none a.base c.if-base-eq0.true)
 
-pub over_1024-requires : goal.over_1024-requires
-over_1024-requires c = omega (arith, c.lower_ten.ensures.1)
-
 pub returns : goal.returns
 returns c =
     let a = c.args in

@@ -14,12 +14,6 @@ returns-then-base-eq0 c =
     let a = c.args in
     c.bare_present.ensures ∙ ap (λ (r : Option ℕ). (evidence_of r a.word).present) (rate_none a.base c.if-base-eq0.true)
 
-pub overflow_sub-lower_ten : goal.overflow_sub-lower_ten
-overflow_sub-lower_ten c = omega (arith, c.lower_ten.ensures.1)
-
-pub over_1024-requires : goal.over_1024-requires
-over_1024-requires c = omega (arith, c.lower_ten.ensures.1)
-
 pub returns : goal.returns
 returns c =
     let a = c.args in

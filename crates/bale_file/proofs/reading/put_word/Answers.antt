@@ -1,14 +1,10 @@
 -- `bale_file::reading::put_word` meets its contract.
-use mathlib.Core.Path.{sym, ap, ◌∙◌}
+use mathlib.Core.Path.{sym, ◌∙◌}
 use borrow.Author.Tests.{lt-ltb, le-ltb}
-use lib.ListN.{length, length-set}
 use lib.Seq.{set_out}
 use Rattle.bale_file.specs.Reading.{one_more, put_at}
 use Rattle.bale_file.proofs.reading.put_word.Goals as goal
 use Rattle.bale_file.proofs.reading.put_word.Goals.{then-at-words, else-at-words}
-
-pub shape_of-words-then-count-lt-MOST_WORDS : goal.shape_of-words-then-count-lt-MOST_WORDS
-shape_of-words-then-count-lt-MOST_WORDS c = elim c.if-at-words.branch [ then-at-words w ↦ ap length w.words-is ∙ simp length-set | else-at-words w ↦ ap length w.words-is ]
 
 pub returns-then-count-lt-MOST_WORDS : goal.returns-then-count-lt-MOST_WORDS
 unfolding one_more put_at

@@ -4,4 +4,4 @@ use Rattle.bench.proofs.graph.cut_graph.Goals as goal
 
 pub returns : goal.returns
 returns c =
-    rw (sym c.check-v.ensures) c.cut_judged.ensures
+    rw (sym c.check-judged.ensures) c.cut_judged.ensures

@@ -6,11 +6,6 @@ use Rattle.components.specs.ComponentMemory.{memory}
 use Rattle.components.specs.ComponentAll.{next_free_lem, next_bounds, find_first, find_asks, find_graph, find_next, find_end}
 use Rattle.components.proofs.components.find_components.Goals as goal
 
-pub next_start-v-requires : goal.next_start-v-requires
-next_start-v-requires c =
-    let a = c.args in
-    (omega (arith, c.requires.fits), omega arith)
-
 pub loop-v-init : goal.loop-v-init
 loop-v-init c =
     let a = c.args in
@@ -29,24 +24,6 @@ component-at-requires c =
     let a = c.args in
     let s = c.loop-v in
     find_asks a.n a.e a.s a.words.now c.requires s.words s.invariant.0 s.count s.at s.v c.loop-v-test.true (s.invariant.4 c.loop-v-test.true) s.invariant.1 s.invariant.5
-
-pub overflow_add-count : goal.overflow_add-count
-overflow_add-count c =
-    let a = c.args in
-    let s = c.loop-v in
-    omega (arith, s.invariant.2, s.invariant.3, c.loop-v-test.true, c.requires.nodes)
-
-pub overflow_add-v : goal.overflow_add-v
-overflow_add-v c =
-    let a = c.args in
-    let s = c.loop-v in
-    omega (arith, c.loop-v-test.true, c.requires.nodes)
-
-pub next_start-v-requires-in-loop-v : goal.next_start-v-requires-in-loop-v
-next_start-v-requires-in-loop-v c =
-    let a = c.args in
-    let s = c.loop-v in
-    (omega (arith, c.requires.fits, c.component-at.auto.words, s.invariant.0), omega (arith, c.loop-v-test.true))
 
 pub loop-v-smaller : goal.loop-v-smaller
 loop-v-smaller c =
@@ -68,9 +45,6 @@ loop-v-preserved c =
       λ h. rw q (next_free_lem (memory a.n a.e a.s c.component-at.new.words).node_numbers (s.v + 1) (a.n - (s.v + 1)) (omega (arith, q, h, c.loop-v-test.true))),
       find_next a.n a.e a.s a.words.now c.requires s.words s.invariant.0 s.count s.at s.v c.loop-v-test.true (s.invariant.4 c.loop-v-test.true) s.invariant.1 s.invariant.5 _ _ _ c.component-at.ensures q,
     )
-
-pub shape_of-words : goal.shape_of-words
-shape_of-words c = c.loop-v.invariant.0
 
 pub returns : goal.returns
 returns c =

@@ -15,18 +15,10 @@ overflow_cast-words c =
     let a = c.args in
     record { fits = omega (arith, c.requires.small, (meeting_room a.n a.e a.s a.at a.v a.words.now a.met.count a.met.top c.requires _ refl c.if-words-i-ne0.false).0) }
 
-pub bounds-words-stack : goal.bounds-words-stack
-bounds-words-stack c =
-    let a = c.args in
-    simp length-set (omega (arith, c.requires.scratch, (meeting_room a.n a.e a.s a.at a.v a.words.now a.met.count a.met.top c.requires _ refl c.if-words-i-ne0.false).1))
-
 pub bounds-words-stack-2 : goal.bounds-words-stack-2
 bounds-words-stack-2 c =
     let a = c.args in
     simp length-set (omega (arith, (meeting_room a.n a.e a.s a.at a.v a.words.now a.met.count a.met.top c.requires _ refl c.if-words-i-ne0.false).2))
-
-pub shape_of-words : goal.shape_of-words
-shape_of-words c = simp length-set
 
 pub returns : goal.returns
 returns c =

@@ -1,7 +1,6 @@
 -- `factor_graph::records::number_edge` meets its contract.
-use mathlib.Core.Path.{refl, ◌∙◌}
+use mathlib.Core.Path.{refl}
 use native.Mathlib.Omega.{arith}
-use lib.ListN.{length-set}
 use Rattle.components.specs.ComponentEdges.{number-none, number_room, edge_asks, number-left}
 use Rattle.components.proofs.records.number_edge.Goals as goal
 
@@ -44,9 +43,6 @@ overflow_add-result c =
     let a = c.args in
     let r = number_room a.n a.e a.s a.to a.k a.count a.words.now c.requires _ refl c.if-words-i-ne0.false in
     omega (arith, r)
-
-pub shape_of-words : goal.shape_of-words
-shape_of-words c = c.write_edge.auto.words ∙ simp length-set
 
 pub returns : goal.returns
 returns c =

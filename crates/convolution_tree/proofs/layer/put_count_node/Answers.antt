@@ -10,11 +10,6 @@ use Rattle.definition.specs.ConvolutionTree.{convolve}
 use Rattle.convolution_tree.specs.Lent.{lent-made}
 use Rattle.convolution_tree.proofs.layer.put_count_node.Goals as goal
 
-pub slice_bounds-hand_over-end : goal.slice_bounds-hand_over-end
-slice_bounds-hand_over-end c =
-    let m = c.args.m in
-    omega (arith, ap length c.requires.0, length-replicate (m + m - 1) zeroᶠ)
-
 pub returns : goal.returns
 returns c =
     let a = c.args in

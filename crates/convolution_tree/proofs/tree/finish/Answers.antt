@@ -1,14 +1,10 @@
 -- `convolution_tree::finish` meets its contract.
-use mathlib.Core.Path.{sym}
-use native.Mathlib.Omega.{arith}
-use lib.Seq.{length-take-le}
+use lib.Ieee.{of_bits}
 use Rattle.convolution_tree.specs.Exchange.{finished}
 use Rattle.convolution_tree.proofs.tree.finish.Goals as goal
 
-pub slice_bounds-avoid_underflow-end-2 : goal.slice_bounds-avoid_underflow-end-2
-slice_bounds-avoid_underflow-end-2 c = sym (length-take-le _ _ (omega arith))
-
 pub returns : goal.returns
+unfolding of_bits
 returns c =
     let a = c.args in
-    finished a.w.now c.avoid_underflow.new.a c.clear.new.a a.e a.end c.requires.0 c.requires.1 c.avoid_underflow.ensures c.clear.ensures
+    finished a.w.now c.avoid_underflow.new.a c.fill.new.self a.e a.end c.requires.0 c.requires.1 c.avoid_underflow.ensures (c.fill.ensures.after (λ y e. e))

@@ -1,12 +1,7 @@
 -- `convolution_tree::seed` meets its contract.
-use mathlib.Core.Path.{sym}
 use native.Mathlib.Omega.{arith}
-use lib.Seq.{length-take-le}
 use Rattle.convolution_tree.specs.Tree.{seed_put}
 use Rattle.convolution_tree.proofs.tree.seed.Goals as goal
-
-pub slice_bounds-normalize-end-2 : goal.slice_bounds-normalize-end-2
-slice_bounds-normalize-end-2 c = sym (length-take-le _ _ (omega arith))
 
 pub returns : goal.returns
 returns c =

@@ -1,7 +1,7 @@
 -- `build::build` meets its contract. Assumes nothing.
 use Prim.Native.Nat.{◌+◌, ◌*◌, ◌/◌, ◌≤◌}
 use lib.ListN.{length, length-set}
-use Rattle.factor_graph.specs.Build.{build_sortable, build-counts, build-grades, build-sum, build-trees, build-size, build-labels, build-part, build_writable, build_listable, build-same, build-words, build-length}
+use Rattle.factor_graph.specs.Build.{build_sortable, build-counts, build-grades, build-sum, build-trees, build-size, build-labels, build-part, build_writable, build_listable, build-words, build-length}
 use native.Mathlib.Omega.{arith}
 use Rattle.factor_graph.proofs.build.build.Goals as goal
 
@@ -29,11 +29,6 @@ pub overflow_cast-words-2 : goal.overflow_cast-words-2
 overflow_cast-words-2 c =
     let few_trees : c.count_trees-trees.result ≤ c.args.markers = let s = c.sort_by_marker in let a = c.args in build-trees a.words.now a.grades a.markers a.pairs.now c.requires s.new.counts s.new.grades s.ensures.0 s.ensures.1 c.count_trees-trees.result c.count_trees-trees.ensures in
     omega (arith, few_trees, c.requires)
-
-pub bounds-words-1 : goal.bounds-words-1
-bounds-words-1 c =
-    let size : let a = c.args in let t = c.count_trees-trees.result in 3 + 3 * (a.grades + 2 * a.markers + t) + 7 * (length a.pairs.now / 2 + a.markers + t) ≤ length a.words.now = let s = c.sort_by_marker in let a = c.args in build-size a.words.now a.grades a.markers a.pairs.now c.requires s.new.counts s.new.grades s.ensures.0 s.ensures.1 c.count_trees-trees.result c.count_trees-trees.ensures in
-    simp length-set (omega (arith, size))
 
 pub write_kinds-requires : goal.write_kinds-requires
 write_kinds-requires c =
@@ -119,18 +114,6 @@ write_lists-requires c =
     let a = c.args in
     let p = c.requires in
     build_listable a.words.now a.grades a.markers a.pairs.now p s.new.counts s.new.grades s.ensures.0 s.ensures.1 t.result t.ensures k.new.words k.ensures l.new.words l.ensures d.new.edges d.new.degrees d.ensures
-
-pub shape_of-words : goal.shape_of-words
-shape_of-words c =
-    let z = c.write_lists in
-    let d = c.write_edges in
-    let l = c.write_labels in
-    let k = c.write_kinds in
-    let t = c.count_trees-trees in
-    let s = c.sort_by_marker in
-    let a = c.args in
-    let p = c.requires in
-    build-same a.words.now a.grades a.markers a.pairs.now p s.new.counts s.new.grades s.ensures.0 s.ensures.1 t.result t.ensures k.new.words k.ensures l.new.words l.ensures d.new.edges d.new.degrees d.ensures z.new.words z.ensures
 
 pub returns : goal.returns
 returns c =

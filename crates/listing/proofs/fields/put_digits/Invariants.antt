@@ -1,13 +1,8 @@
 -- `listing::fields::put_digits` meets its contract: with the digits that are left put before those that are written, the buffer is as it is to be.
-use mathlib.Core.Path.{◌≡◌}
-use Prim.Native.Nat.{◌≤◌}
-use lib.ListN.{length}
+use Rattle.std.specs.Prelude.{◌≡◌}
 use Rattle.list_laws.specs.Put.{put}
 use Rattle.listing.specs.Digits.{digits}
 use Rattle.listing.proofs.fields.put_digits.Given as goal
 
 abbrev pub invariant-loop-left : goal.invariant-loop-left
-invariant-loop-left l = (l.left ≤ l.count) × (length l.out ≡ length l.initial.out) × (put l.out l.at (digits l.base l.left l.rest) ≡ put l.initial.out l.at (digits l.base l.count l.n))
-
-abbrev pub decreases-loop-left : goal.decreases-loop-left
-decreases-loop-left l = l.left
+invariant-loop-left l = put l.out l.at (digits l.base l.left l.rest) ≡ put l.initial.out l.at (digits l.base l.count l.n)

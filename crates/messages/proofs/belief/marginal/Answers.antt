@@ -7,16 +7,13 @@ use Rattle.messages.proofs.belief.marginal.Goals as goal
 
 pub add_logs-sum-requires : goal.add_logs-sum-requires
 unfolding of_bits
-add_logs-sum-requires c = let p = c.requires in record { table_value = p.table_value; rows_len_bound = (p.rows_len_bound, zero_wide, zero_wide) }
-
-pub logs-prior-requires : goal.logs-prior-requires
-logs-prior-requires c = c.requires.table_value
+add_logs-sum-requires c = let p = c.requires in record { rows_len_bound = (p.rows_len_bound, zero_wide, zero_wide) }
 
 pub log_normalize-requires : goal.log_normalize-requires
 log_normalize-requires c =
     let p = c.logs-prior in
     let s = c.add_logs-sum in
-    record { table_value = c.requires.table_value; t = (belief_finite p.result.absent s.result.absent p.ensures.wide_absent s.ensures.2, belief_finite p.result.present s.result.present p.ensures.wide_present s.ensures.3) }
+    record { t = (belief_finite p.result.absent s.result.absent p.ensures.wide_absent s.ensures.2, belief_finite p.result.present s.result.present p.ensures.wide_present s.ensures.3) }
 
 pub returns : goal.returns
 unfolding of_bits

@@ -1,8 +1,6 @@
--- `messages::directions::fill_directions` meets its contract. Whatever graph the record is of: after n turns its rows are filled up to the first direction of node n.
-use Prim.Native.Nat.{ℕ, ◌+◌, ◌-◌, ◌≤◌}
-use mathlib.Core.Path.{◌≡◌}
-use mathlib.Core.List.{List}
-use lib.ListN.{length, get_or}
+-- `messages::directions::fill_directions` meets its contract.
+-- Whatever graph the record is of: after n turns its rows are filled up to the first direction of node n.
+use Rattle.std.proofs.Common.{◌≡◌, List, ℕ, ◌+◌, get_or}
 use Rattle.definition.specs.Components.{Subgraph}
 use Rattle.definition.specs.Directions.{message_graph}
 use Rattle.messages.specs.Layout.{firsts_of}
@@ -11,11 +9,7 @@ use Rattle.messages.proofs.directions.fill_directions.Given as goal
 
 abbrev pub invariant-loop-n : goal.invariant-loop-n
 invariant-loop-n l =
-    (l.n ≤ l.nodes)
-    × (length l.words ≡ length l.initial.words)
-    × (l.nodes ≡ get_or l.initial.words l.at 0)
+    (l.nodes ≡ get_or l.initial.words l.at 0)
     × (l.edges ≡ get_or l.initial.words (l.at + 1) 0)
-    × ((base labels : List ℕ) (g : Subgraph) → Filled base l.at l.out labels g 0 l.initial.words → Filled base l.at l.out labels g (get_or (firsts_of (message_graph g)) l.n 0) l.words)
-
-abbrev pub decreases-loop-n : goal.decreases-loop-n
-decreases-loop-n l = l.nodes - l.n
+    × ((base labels : List ℕ) (g : Subgraph) → Filled base l.at l.out labels g 0 l.initial.words
+    → Filled base l.at l.out labels g (get_or (firsts_of (message_graph g)) l.n 0) l.words)

@@ -3,15 +3,12 @@ use Rattle.definition.specs.Vectors.{binary}
 use Rattle.messages.specs.Variable.{less_finite, left_out}
 use Rattle.messages.proofs.opening.leave_one_out.Goals as goal
 
-pub logs-own-requires : goal.logs-own-requires
-logs-own-requires c = c.requires.table_value
-
 pub log_normalize-requires : goal.log_normalize-requires
 log_normalize-requires c =
     let p = c.requires in
     let t = c.args.total in
     let o = c.logs-own in
-    record { table_value = p.table_value; t = (less_finite t.absent o.result.absent p.wide.0 o.ensures.wide_absent, less_finite t.present o.result.present p.wide.1 o.ensures.wide_present) }
+    record { t = (less_finite t.absent o.result.absent p.wide.0 o.ensures.wide_absent, less_finite t.present o.result.present p.wide.1 o.ensures.wide_present) }
 
 pub avoid_underflow-requires : goal.avoid_underflow-requires
 avoid_underflow-requires c = tt

@@ -4,11 +4,8 @@ use Rattle.messages.specs.Pairs.{pairs}
 use Rattle.messages.specs.Variable.{total-is}
 use Rattle.messages.proofs.opening.log_total.Goals as goal
 
-pub logs-requires : goal.logs-requires
-logs-requires c = c.requires.table_value
-
 pub add_logs-requires : goal.add_logs-requires
-add_logs-requires c = let p = c.requires in record { table_value = p.table_value; rows_len_bound = (p.rows_len_bound, c.logs.ensures.wide_absent, c.logs.ensures.wide_present) }
+add_logs-requires c = let p = c.requires in record { rows_len_bound = (p.rows_len_bound, c.logs.ensures.wide_absent, c.logs.ensures.wide_present) }
 
 pub returns : goal.returns
 returns c =

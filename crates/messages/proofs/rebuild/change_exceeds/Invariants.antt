@@ -1,7 +1,5 @@
 -- `messages::rebuild::change_exceeds` meets its contract: what is left of both, from the sum so far, decides.
-use mathlib.Core.Path.{◌≡◌}
-use Prim.Native.Nat.{◌-◌, ◌/◌, ◌≤◌}
-use lib.ListN.{length, drop}
+use Rattle.std.proofs.Common.{◌≡◌, drop}
 use Rattle.definition.specs.Floats.{zeroᶠ}
 use Rattle.definition.specs.Messages.{change_exceeds}
 use Rattle.messages.specs.Pairs.{pairs}
@@ -9,7 +7,4 @@ use Rattle.messages.proofs.rebuild.change_exceeds.Given as goal
 
 abbrev pub invariant-loop-i : goal.invariant-loop-i
 invariant-loop-i l =
-    (l.i ≤ length l.rows / 2) × (change_exceeds l.tolerance l.change (drop l.i (pairs l.rows)) (drop l.i (pairs l.old)) ≡ change_exceeds l.tolerance zeroᶠ (pairs l.rows) (pairs l.old))
-
-abbrev pub decreases-loop-i : goal.decreases-loop-i
-decreases-loop-i l = length l.rows / 2 - l.i
+    change_exceeds l.tolerance l.change (drop l.i (pairs l.rows)) (drop l.i (pairs l.old)) ≡ change_exceeds l.tolerance zeroᶠ (pairs l.rows) (pairs l.old)

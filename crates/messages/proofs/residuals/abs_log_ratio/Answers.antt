@@ -4,12 +4,9 @@ use Rattle.definition.specs.Floats.{abs}
 use Rattle.definition.specs.Messages.{abs_log_ratio}
 use Rattle.messages.proofs.residuals.abs_log_ratio.Goals as goal
 
-pub ln_from_table-requires : goal.ln_from_table-requires
-ln_from_table-requires c = c.requires
-
 pub abs-requires : goal.abs-requires
 abs-requires c = tt
 
 pub returns : goal.returns
 unfolding abs_log_ratio
-returns c = c.abs.ensures ∙ ap abs c.ln_from_table.ensures
+returns c = c.abs.ensures ∙ ap abs c.ln.ensures

@@ -8,13 +8,10 @@ use Rattle.messages.proofs.residuals.residual_binary.Goals as goal
 pub max-ratio-requires : goal.max-ratio-requires
 max-ratio-requires c = tt
 
-pub ln_from_table-requires : goal.ln_from_table-requires
-ln_from_table-requires c = c.requires
-
 pub abs-requires : goal.abs-requires
 abs-requires c = tt
 
 pub returns : goal.returns
 unfolding pair_residual
 returns c =
-    c.abs.ensures ∙ ap abs (c.ln_from_table.ensures ∙ ap (λ (x : Float). ln x) c.max-ratio.ensures)
+    c.abs.ensures ∙ ap abs (c.ln.ensures ∙ ap (λ (x : Float). ln x) c.max-ratio.ensures)

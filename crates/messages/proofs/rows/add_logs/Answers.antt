@@ -1,21 +1,10 @@
 -- `messages::rows::add_logs` meets its contract: what is left to add, from the sums so far, makes the whole.
-use mathlib.Core.Path.{ap, ◌∙◌}
-use Prim.Native.Nat.{◌+◌, ◌*◌, ◌≤◌, ◌<◌}
-use native.Mathlib.Omega.{arith}
+use Rattle.std.proofs.Common.{◌+◌, ◌*◌, ◌≤◌, ◌<◌, ◌∙◌, ap, arith}
 use lib.Dec.{lit≤}
 use Rattle.definition.specs.Floats.{ln}
 use Rattle.definition.specs.Vectors.{Message, entry}
-use Rattle.messages.specs.Logarithms.{start, turn, finish, widen}
+use Rattle.messages.specs.Logarithms.{turn, finish, widen}
 use Rattle.messages.proofs.rows.add_logs.Goals as goal
-
-pub loop-i-init : goal.loop-i-init
-loop-i-init c =
-    let a = c.args in
-    let w = c.requires.rows_len_bound in
-    (omega arith, start 0 a.from.absent a.rows.now w.1, start 1 a.from.present a.rows.now w.2)
-
-pub logs-l-requires : goal.logs-l-requires
-logs-l-requires c = c.requires.table_value
 
 pub loop-i-preserved : goal.loop-i-preserved
 loop-i-preserved c =
@@ -25,9 +14,10 @@ loop-i-preserved c =
     let l = c.logs-l in
     let e = c.message_at.ensures in
     let few : s.i < 1100 = omega (arith, c.requires.rows_len_bound.0) in (
-      omega arith,
-      turn 0 a.from.absent a.rows.now s.i s.absent l.result.absent h few (l.ensures.is-absent ∙ ap (λ (z : Message). ln (entry 0 z)) e) l.ensures.wide_absent s.invariant.1,
-      turn 1 a.from.present a.rows.now s.i s.present l.result.present h few (l.ensures.is-present ∙ ap (λ (z : Message). ln (entry 1 z)) e) l.ensures.wide_present s.invariant.2,
+      turn 0 a.from.absent a.rows.now s.i s.absent l.result.absent h few (l.ensures.is-absent ∙ ap (λ (z : Message). ln (entry 0 z)) e)
+          l.ensures.wide_absent s.invariant.0,
+      turn 1 a.from.present a.rows.now s.i s.present l.result.present h few (l.ensures.is-present ∙ ap (λ (z : Message). ln (entry 1 z)) e)
+          l.ensures.wide_present s.invariant.1,
     )
 
 pub returns : goal.returns
@@ -35,8 +25,8 @@ returns c =
     let s = c.loop-i in
     let a = c.args in
     let n : 91 + s.i * 91 ≤ 100000 = omega (arith, c.requires.rows_len_bound.0) in (
-      finish 0 a.from.absent a.rows.now s.i s.absent c.loop-i-test.false s.invariant.1,
-      finish 1 a.from.present a.rows.now s.i s.present c.loop-i-test.false s.invariant.2,
-      widen (91 + s.i * 91) 100000 s.absent n (lit≤ tt) s.invariant.1.wide,
-      widen (91 + s.i * 91) 100000 s.present n (lit≤ tt) s.invariant.2.wide,
+      finish 0 a.from.absent a.rows.now s.i s.absent c.loop-i-test.false s.invariant.0,
+      finish 1 a.from.present a.rows.now s.i s.present c.loop-i-test.false s.invariant.1,
+      widen (91 + s.i * 91) 100000 s.absent n (lit≤ tt) s.invariant.0.wide,
+      widen (91 + s.i * 91) 100000 s.present n (lit≤ tt) s.invariant.1.wide,
     )

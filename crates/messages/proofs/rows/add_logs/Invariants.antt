@@ -1,14 +1,6 @@
 -- `messages::rows::add_logs` meets its contract: what is left to add, from the sums so far, makes the whole.
-use Prim.Native.Nat.{◌-◌, ◌/◌, ◌≤◌}
-use lib.ListN.{length}
 use Rattle.messages.specs.Logarithms.{Upto}
 use Rattle.messages.proofs.rows.add_logs.Given as goal
 
 abbrev pub invariant-loop-i : goal.invariant-loop-i
-invariant-loop-i l =
-    (l.i ≤ length l.rows / 2)
-    × Upto 0 l.initial.absent l.rows l.i l.absent
-    × Upto 1 l.initial.present l.rows l.i l.present
-
-abbrev pub decreases-loop-i : goal.decreases-loop-i
-decreases-loop-i l = length l.rows / 2 - l.i
+invariant-loop-i l = Upto 0 l.initial.absent l.rows l.i l.absent × Upto 1 l.initial.present l.rows l.i l.present

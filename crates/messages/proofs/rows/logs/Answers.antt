@@ -8,12 +8,6 @@ use Rattle.message_bounds.specs.Variable.{ln_wide}
 use Rattle.messages.specs.Logarithms.{Wide}
 use Rattle.messages.proofs.rows.logs.Goals as goal
 
-pub ln_from_table-requires : goal.ln_from_table-requires
-ln_from_table-requires c = c.requires
-
-pub ln_from_table-requires-2 : goal.ln_from_table-requires-2
-ln_from_table-requires-2 c = c.requires
-
 bounded : (x r : Float) → fits binary32 x ≡ true → r ≡ ln x → Wide 91 r
 bounded x r f e = subst (Wide 91) (sym e) (ln_wide x (subst T (sym f) tt))
 
@@ -22,8 +16,8 @@ returns c =
     let m = c.args.m in
     let g = c.well_formed.1.0.1.1 in
     record {
-      is-absent = c.ln_from_table.ensures;
-      is-present = c.ln_from_table-2.ensures;
-      wide_absent = bounded m.absent c.ln_from_table.result g.0.1 c.ln_from_table.ensures;
-      wide_present = bounded m.present c.ln_from_table-2.result g.1.0.1 c.ln_from_table-2.ensures;
+      is-absent = c.ln.ensures;
+      is-present = c.ln-2.ensures;
+      wide_absent = bounded m.absent c.ln.result g.0.1 c.ln.ensures;
+      wide_present = bounded m.present c.ln-2.result g.1.0.1 c.ln-2.ensures;
     }

@@ -3,4 +3,6 @@ use Rattle.messages.specs.Pairs.{pair_at_lem}
 use Rattle.messages.proofs.rows.message_at.Goals as goal
 
 pub returns : goal.returns
-returns c = let a = c.args in pair_at_lem a.rows.now a.i c.requires
+returns c =
+    let e = c.read.ensures.entries in
+    rw (e.0, e.1) (pair_at_lem c.args.rows.now c.args.i c.requires)

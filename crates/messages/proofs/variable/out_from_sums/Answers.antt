@@ -3,15 +3,11 @@ use Rattle.definition.specs.Vectors.{binary}
 use Rattle.messages.specs.Variable.{out-finite, out-from}
 use Rattle.messages.proofs.variable.out_from_sums.Goals as goal
 
-pub logs-own-requires : goal.logs-own-requires
-logs-own-requires c = c.requires.table_value
-
 pub log_normalize-requires : goal.log_normalize-requires
 log_normalize-requires c =
     let a = c.args in
     let p = c.requires in
     let o = c.logs-own in record {
-      table_value = p.table_value;
       t = (
         out-finite a.sum.absent o.result.absent a.prior.absent p.wide.0 o.ensures.wide_absent p.wide.2,
         out-finite a.sum.present o.result.present a.prior.present p.wide.1 o.ensures.wide_present p.wide.3,

@@ -15,12 +15,6 @@ returns-then-rows-le1 c =
     let h : length (pairs a.rows.now) ≤ 1 = omega (arith, length_pairs a.rows.now, c.if-rows-le1.true) in
     out_single (binary a.belief.absent a.belief.present) (pairs a.rows.now) a.i h
 
-pub sum_logs_batched-sum-requires : goal.sum_logs_batched-sum-requires
-sum_logs_batched-sum-requires c = c.requires.table_value
-
-pub logs-prior-requires : goal.logs-prior-requires
-logs-prior-requires c = c.requires.table_value
-
 pub message_at-requires : goal.message_at-requires
 message_at-requires c = c.requires.i_in_bounds.0
 
@@ -29,7 +23,7 @@ out_from_sums-requires c =
     let l = c.args.rows.now in
     let few = c.requires.i_in_bounds.1 in
     let r = c.sum_logs_batched-sum in
-    record { table_value = c.requires.table_value; wide = (batched_wide columns.absent l r.result.absent few r.ensures.0, batched_wide columns.present l r.result.present few r.ensures.1, c.logs-prior.ensures.wide_absent, c.logs-prior.ensures.wide_present) }
+    record { wide = (batched_wide columns.absent l r.result.absent few r.ensures.0, batched_wide columns.present l r.result.present few r.ensures.1, c.logs-prior.ensures.wide_absent, c.logs-prior.ensures.wide_present) }
 
 pub returns : goal.returns
 returns c =

@@ -9,7 +9,7 @@ use Rattle.opening.specs.Begin.{residual-clear, key_waits, key_none}
 use Rattle.opening.proofs.begin.initial_key.Goals as goal
 
 pub residual-amount-requires : goal.residual-amount-requires
-residual-amount-requires c = record { table_value = c.requires.table_value; in_bounds = c.requires.in_bounds }
+residual-amount-requires c = record { in_bounds = c.requires.in_bounds }
 
 pub key_of-requires : goal.key_of-requires
 key_of-requires c =

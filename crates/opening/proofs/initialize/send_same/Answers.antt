@@ -1,75 +1,69 @@
 -- `opening::initialize::send_same` meets its contract: the messages to the positions before direction k are sent.
-use mathlib.Core.Path.{◌≡◌, refl}
-use Prim.Native.Nat.{◌+◌}
-use native.Mathlib.Omega.{arith}
-use lib.ListN.{get_or}
+use Rattle.std.proofs.Common.{◌≡◌, ◌+◌, ◌≤◌, ◌<◌, get_or, arith}
 use Rattle.definition.specs.Vectors.{binary}
 use Rattle.definition.specs.Directions.{node_at}
-use Rattle.opening.specs.OpenRows.{node_room}
+use Rattle.opening.specs.OpenRows.{NodeRoom, node_room}
 use Rattle.opening.specs.OpenSends.{sames, sent-start, same_next, same-sends, sent-all}
 use Rattle.opening.proofs.initialize.send_same.Goals as goal
+use Rattle.opening.proofs.initialize.send_same.Goals.{Start, In-loop-k}
 
-pub overflow_add-n : goal.overflow_add-n
-overflow_add-n c = let N = node_room _ _ _ _ _ c.requires in omega (arith, N.node)
-
-pub word-end-requires : goal.word-end-requires
-word-end-requires c = let N = node_room _ _ _ _ _ c.requires in N.node
+room : (c : Start) → NodeRoom c.args.firsts.now c.args.outs.now c.args.offsets.now c.args.row.now c.args.n
+room c = node_room _ _ _ _ _ c.requires
 
 pub word-k-requires : goal.word-k-requires
-word-k-requires c = let N = node_room _ _ _ _ _ c.requires in omega (arith, N.node)
+word-k-requires c = omega (arith, (room (goal.at.word-k-requires c).Start).node)
+
+pub overflow_add-n : goal.overflow_add-n
+overflow_add-n c = omega (arith, (room (goal.at.overflow_add-n c).Start).node)
+
+pub word-k-end-requires : goal.word-k-end-requires
+word-k-end-requires c = (room (goal.at.word-k-end-requires c).Start).node
 
 pub loop-k-init : goal.loop-k-init
 loop-k-init c =
-    let w = c.word-k in
     let a = c.args in
-    let N = node_room _ _ _ _ _ c.requires in
-    (omega (arith, w.ensures), omega (arith, w.ensures, N.ordered), refl, λ s t R h. sent-start t (node_at t a.n).outgoing (sames (binary a.message.absent a.message.present) (node_at t a.n).outgoing) a.row.now w.result (get_or a.firsts.now a.n 0) w.ensures)
+    λ s t R h.
+    sent-start t (node_at t a.n).outgoing (sames (binary a.message.absent a.message.present) (node_at t a.n).outgoing) a.row.now c.word-k.result
+    (get_or a.firsts.now a.n 0) c.word-k.ensures.0
+
+before-end : (c : In-loop-k) → c.loop-k.k < get_or c.args.firsts.now (c.args.n + 1) 0
+before-end c = omega (arith, c.loop-k-test.true, c.word-k-end.ensures.0)
 
 pub word-requires : goal.word-requires
-word-requires c = let N = node_room _ _ _ _ _ c.requires in omega (arith, N.last, c.loop-k-test.true, c.word-end.ensures)
-
-pub word-at-requires : goal.word-at-requires
-word-at-requires c = let N = node_room _ _ _ _ _ c.requires in omega (arith, N.last, N.after, c.word.ensures, N.out c.loop-k.k (omega (arith, N.last, c.loop-k-test.true, c.word-end.ensures)))
-
-pub put_message-requires : goal.put_message-requires
-put_message-requires c =
+word-requires c =
     let N = node_room _ _ _ _ _ c.requires in
-    let k = c.loop-k.k in
-    let q = N.out k (omega (arith, N.last, c.loop-k-test.true, c.word-end.ensures)) in
-    let o = c.word in
-    omega (arith, N.two o.result (omega (arith, q, o.ensures)), c.word-at.ensures, c.loop-k.invariant.2)
+    omega (arith, N.last, before-end (goal.at.word-requires c).In-loop-k)
 
-pub overflow_add-k : goal.overflow_add-k
-overflow_add-k c =
+pub word-requires-in-loop-k : goal.word-requires-in-loop-k
+word-requires-in-loop-k c =
     let N = node_room _ _ _ _ _ c.requires in
-    omega (arith, N.last, c.loop-k-test.true, c.word-end.ensures)
+    let l = before-end (goal.at.word-requires-in-loop-k c).In-loop-k in
+    omega (arith, N.last, N.after, c.word.ensures.0, N.out c.loop-k.k (omega (arith, N.last, l)))
 
-pub loop-k-smaller : goal.loop-k-smaller
-loop-k-smaller c = omega (arith, c.loop-k-test.true, c.word-end.ensures)
+pub write-requires : goal.write-requires
+write-requires c =
+    let N = node_room _ _ _ _ _ c.requires in
+    let l = before-end (goal.at.write-requires c).In-loop-k in
+    let q = N.out c.loop-k.k (omega (arith, N.last, l)) in
+    omega (arith, N.two c.word.result (omega (arith, q, c.word.ensures.0)), c.word-in-loop-k.ensures.0)
 
 pub loop-k-preserved : goal.loop-k-preserved
 loop-k-preserved c =
     let s = c.loop-k in
     let a = c.args in
-    let p = c.put_message in
-    let f = c.word-end.ensures in
-    let q = c.loop-k-test.true in (
-      omega (arith, s.invariant.0),
-      omega (arith, q, f),
-      omega (arith, p.auto.row, s.invariant.2),
-      (λ v t R h.
-          same_next v t a.firsts.now a.outs.now a.offsets.now a.row.now R a.n h s.row p.new.row a.message.absent a.message.present c.word.result c.word-at.result s.k s.invariant.0 (omega (arith, q, f))
-          (s.invariant.3 v t R h) c.word.ensures c.word-at.ensures p.ensures),
-    )
-
-pub shape_of-row : goal.shape_of-row
-shape_of-row c = c.loop-k.invariant.2
+    let from : get_or a.firsts.now a.n 0 ≤ s.k = omega (arith, s.auto.k, c.word-k.ensures.0) in
+    λ v t R h.
+    same_next v t a.firsts.now a.outs.now a.offsets.now a.row.now R a.n h s.row c.write.new.row a.message.absent a.message.present c.word.result
+    c.word-in-loop-k.result s.k from (before-end (goal.at.loop-k-preserved c).In-loop-k)
+    (s.invariant v t R h) c.word.ensures.0 c.word-in-loop-k.ensures.0 c.write.ensures
 
 pub returns : goal.returns
 returns c =
     let s = c.loop-k in
     let a = c.args in
-    let e : s.k ≡ get_or a.firsts.now (a.n + 1) 0 = omega (arith, s.invariant.1, c.loop-k-test.false, c.word-end.ensures) in
+    let N = node_room _ _ _ _ _ c.requires in
+    let e : s.k ≡ get_or a.firsts.now (a.n + 1) 0 = omega (arith, N.ordered, s.auto.k-end, c.loop-k-test.false, c.word-k.ensures.0, c.word-k-end.ensures.0) in
     λ v t R h y.
-    sent-all v t a.firsts.now a.outs.now a.offsets.now a.row.now R a.n h (sames (binary a.message.absent a.message.present) (node_at t a.n).outgoing) s.row s.k e (s.invariant.3 v t R h)
+    sent-all v t a.firsts.now a.outs.now a.offsets.now a.row.now R a.n h (sames (binary a.message.absent a.message.present) (node_at t a.n).outgoing) s.row
+    s.k e (s.invariant v t R h)
     (same-sends v t a.firsts.now a.outs.now a.offsets.now a.row.now R a.n h a.message.absent a.message.present y)

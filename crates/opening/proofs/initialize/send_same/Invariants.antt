@@ -1,7 +1,5 @@
 -- `opening::initialize::send_same` meets its contract: the messages to the positions before direction k are sent.
-use mathlib.Core.Path.{◌≡◌}
-use Prim.Native.Nat.{◌+◌, ◌-◌, ◌≤◌, ◌<◌}
-use lib.ListN.{length, get_or}
+use Rattle.std.proofs.Common.{◌≡◌, ◌-◌, ◌<◌, length, get_or}
 use Rattle.definition.specs.Settings.{Settings}
 use Rattle.definition.specs.Vectors.{binary}
 use Rattle.definition.specs.Directions.{MessageGraph, node_at}
@@ -12,10 +10,6 @@ use Rattle.opening.proofs.initialize.send_same.Given as goal
 
 abbrev pub invariant-loop-k : goal.invariant-loop-k
 invariant-loop-k l =
-    (get_or l.firsts l.n 0 ≤ l.k)
-    × (l.k ≤ get_or l.firsts (l.n + 1) 0)
-    × (length l.row ≡ length l.initial.row)
-    × ((s : Settings) (t : MessageGraph) → SendRows s t l.firsts l.outs l.offsets l.initial.row → l.n < length t.nodes → l.row ≡ sent t.directions (node_at t l.n).outgoing (sames (binary l.message.absent l.message.present) (node_at t l.n).outgoing) l.initial.row (l.k - get_or l.firsts l.n 0))
-
-abbrev pub decreases-loop-k : goal.decreases-loop-k
-decreases-loop-k l = get_or l.firsts (l.n + 1) 0 - l.k
+    (s : Settings) (t : MessageGraph) → SendRows s t l.firsts l.outs l.offsets l.initial.row → l.n < length t.nodes
+    → l.row ≡ sent t.directions (node_at t l.n).outgoing (sames (binary l.message.absent l.message.present) (node_at t l.n).outgoing) l.initial.row
+    (l.k - get_or l.firsts l.n 0)

@@ -19,7 +19,7 @@ open_factors-requires c = let S = c.requires.some_open_part in record { settings
 pub open_grades-requires : goal.open_grades-requires
 open_grades-requires c =
     let S = c.requires.some_open_part in
-    record { table_value = c.requires.table_value; some_grades_rows = record { settings = S.settings; graph = S.graph; rows = grades-rows S.rows (omega (arith, c.fill_initial.auto.row, c.open_inputs.auto.row, c.open_factors.auto.row)) } }
+    record { some_grades_rows = record { settings = S.settings; graph = S.graph; rows = grades-rows S.rows (omega (arith, c.fill_initial.auto.row, c.open_inputs.auto.row, c.open_factors.auto.row)) } }
 
 pub returns : goal.returns
 unfolding initialize_messages

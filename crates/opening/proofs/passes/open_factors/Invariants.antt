@@ -1,7 +1,5 @@
 -- `opening::passes::open_factors` meets its contract: the first n nodes have had their turn.
-use mathlib.Core.Path.{◌≡◌}
-use Prim.Native.Nat.{◌-◌, ◌≤◌}
-use lib.ListN.{length, take}
+use Rattle.std.proofs.Common.{◌≡◌, take}
 use Rattle.definition.specs.Settings.{Settings}
 use Rattle.definition.specs.FactorGraph.{is_factor}
 use Rattle.definition.specs.Directions.{MessageGraph}
@@ -12,9 +10,6 @@ use Rattle.opening.proofs.passes.open_factors.Given as goal
 
 abbrev pub invariant-loop-n : goal.invariant-loop-n
 invariant-loop-n l =
-    (l.n ≤ length l.kinds)
-    × (length l.row ≡ length l.initial.row)
-    × ((s : Settings) (t : MessageGraph) → FactorRows s t l.kinds l.firsts l.starts l.outs l.offsets l.initial.row → FactorSettings s l.alpha l.beta l.regularised → cut t.directions l.row ≡ update_kind is_factor (opening_factor s t) (take l.n t.nodes) (cut t.directions l.initial.row))
-
-abbrev pub decreases-loop-n : goal.decreases-loop-n
-decreases-loop-n l = length l.kinds - l.n
+    (s : Settings) (t : MessageGraph) → FactorRows s t l.kinds l.firsts l.starts l.outs l.offsets l.initial.row
+    → FactorSettings s l.alpha l.beta l.regularised
+    → cut t.directions l.row ≡ update_kind is_factor (opening_factor s t) (take l.n t.nodes) (cut t.directions l.initial.row)

@@ -1,7 +1,5 @@
 -- `opening::passes::open_inputs` meets its contract: the first n nodes have had their turn.
-use mathlib.Core.Path.{◌≡◌}
-use Prim.Native.Nat.{◌-◌, ◌≤◌}
-use lib.ListN.{length, take}
+use Rattle.std.proofs.Common.{◌≡◌, take}
 use Rattle.definition.specs.Settings.{Settings}
 use Rattle.definition.specs.FactorGraph.{is_input}
 use Rattle.definition.specs.Directions.{MessageGraph}
@@ -12,9 +10,5 @@ use Rattle.opening.proofs.passes.open_inputs.Given as goal
 
 abbrev pub invariant-loop-n : goal.invariant-loop-n
 invariant-loop-n l =
-    (l.n ≤ length l.kinds)
-    × (length l.row ≡ length l.initial.row)
-    × ((s : Settings) (t : MessageGraph) → InputsRows s t l.kinds l.firsts l.outs l.offsets l.labels l.evidence l.initial.row → cut t.directions l.row ≡ update_kind is_input (opening_input s) (take l.n t.nodes) (cut t.directions l.initial.row))
-
-abbrev pub decreases-loop-n : goal.decreases-loop-n
-decreases-loop-n l = length l.kinds - l.n
+    (s : Settings) (t : MessageGraph) → InputsRows s t l.kinds l.firsts l.outs l.offsets l.labels l.evidence l.initial.row
+    → cut t.directions l.row ≡ update_kind is_input (opening_input s) (take l.n t.nodes) (cut t.directions l.initial.row)

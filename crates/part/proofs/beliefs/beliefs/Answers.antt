@@ -7,7 +7,6 @@ use Rattle.part.proofs.beliefs.beliefs.Goals as goal
 pub write_beliefs-requires : goal.write_beliefs-requires
 write_beliefs-requires c =
     let S = c.requires.some_beliefs in record {
-      table_value = c.requires.table_value;
       some_rows = record {
         settings = S.settings;
         given = ap (λ (s : Settings). s.prior) S.given;

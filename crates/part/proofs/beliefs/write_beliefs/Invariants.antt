@@ -1,8 +1,5 @@
 -- `part::beliefs::write_beliefs` meets its contract.
-use mathlib.Core.Path.{◌≡◌}
-use mathlib.Core.List.{List}
-use Prim.Native.Nat.{◌-◌, ◌*◌, ◌≤◌}
-use lib.ListN.{length, take}
+use Rattle.std.proofs.Common.{◌≡◌, List, ◌*◌, ◌≤◌, length, take}
 use Rattle.definition.specs.Settings.{Settings}
 use Rattle.definition.specs.FactorGraph.{Node}
 use Rattle.definition.specs.Vectors.{Message}
@@ -14,11 +11,7 @@ use Rattle.part.proofs.beliefs.write_beliefs.Given as goal
 
 abbrev pub invariant-loop-n : goal.invariant-loop-n
 invariant-loop-n l =
-    (l.n ≤ length l.kinds)
-    × (length l.numbers ≡ length l.initial.numbers)
-    × (length l.floats ≡ length l.initial.floats)
-    × ((s : Settings) (t : MessageGraph) (ms : List Message) (ns : List Node) → BeliefRows s t ms ns l.kinds l.labels l.firsts l.offsets l.w → s.prior ≡ l.prior → length (beliefs_among s ms ns t.nodes) ≤ length l.initial.numbers
-    → 2 * length (beliefs_among s ms ns t.nodes) ≤ length l.initial.floats → Believed (beliefs_among s ms (take l.n ns) (take l.n t.nodes)) l.initial.numbers l.initial.floats l.k l.numbers l.floats)
-
-abbrev pub decreases-loop-n : goal.decreases-loop-n
-decreases-loop-n l = length l.kinds - l.n
+    (s : Settings) (t : MessageGraph) (ms : List Message) (ns : List Node) → BeliefRows s t ms ns l.kinds l.labels l.firsts l.offsets l.w
+    → s.prior ≡ l.prior → length (beliefs_among s ms ns t.nodes) ≤ length l.initial.numbers
+    → 2 * length (beliefs_among s ms ns t.nodes) ≤ length l.initial.floats
+    → Believed (beliefs_among s ms (take l.n ns) (take l.n t.nodes)) l.initial.numbers l.initial.floats l.k l.numbers l.floats

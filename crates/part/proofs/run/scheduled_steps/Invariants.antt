@@ -1,7 +1,5 @@
 -- `part::run::scheduled_steps` meets its contract.
-use mathlib.Core.Path.{◌≡◌}
-use Prim.Native.Nat.{◌+◌, ◌-◌, ◌≤◌}
-use lib.ListN.{length, get_or}
+use Rattle.std.proofs.Common.{◌+◌, ◌-◌, ◌≤◌, get_or}
 use Rattle.definition.specs.Settings.{Settings}
 use Rattle.definition.specs.Directions.{MessageGraph}
 use Rattle.definition.specs.Run.{State}
@@ -13,12 +11,13 @@ use Rattle.part.proofs.run.scheduled_steps.Given as goal
 
 abbrev pub invariant-loop-steps : goal.invariant-loop-steps
 invariant-loop-steps l =
-    (l.steps ≤ l.limit)
-    × (length l.w ≡ length l.initial.w)
-    × (length l.words ≡ length l.initial.words)
-    × KeptFront l.out l.initial.words l.words
-    × ChangedBelow (changed_from l.changed) (get_or l.words 0 0 + 1)
-    × ((s : Settings) (t : MessageGraph) (x : State) → Runs s t l.out l.evidence x l.initial.words l.initial.w → Given s l.settings → AtStart t x → Stepped s t l.out l.evidence l.limit x l.steps l.last l.changed l.words l.w)
+    record {
+      within : l.steps ≤ l.limit;
+      front : KeptFront l.out l.initial.words l.words;
+      changed : ChangedBelow (changed_from l.changed) (get_or l.words 0 0 + 1);
+      stepped : (s : Settings) (t : MessageGraph) (x : State) → Runs s t l.out l.evidence x l.initial.words l.initial.w → Given s l.settings → AtStart t x
+          → Stepped s t l.out l.evidence l.limit x l.steps l.last l.changed l.words l.w;
+    }
 
 abbrev pub decreases-loop-steps : goal.decreases-loop-steps
 decreases-loop-steps l =

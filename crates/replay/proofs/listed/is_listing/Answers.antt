@@ -3,7 +3,7 @@ use Rattle.std.specs.Prelude.{ℕ, List, [], refl, replicate}
 use Rattle.std.proofs.Common.{arith, sym, ap, ◌∙◌, length-take-le}
 use Rattle.definition.specs.Listing.{listing}
 use Rattle.listing.specs.Front.{front_fits, front-is}
-use Rattle.replay.specs.Same.{same_bytes}
+use Rattle.std.specs.Str.{bytes_eq}
 use Rattle.replay.proofs.listed.is_listing.Goals as goal
 
 pub take_piece-input-requires-clause-some_taken_in : goal.take_piece-input-requires-clause-some_taken_in
@@ -21,12 +21,12 @@ slice_bounds-out-end c =
     let r = c.list_bale-n.ensures _ (c.take_piece-input.ensures [] (c.begin-start.ensures _ _ refl refl)).taken in
     front_fits (listing c.args.file.now) _ _ _ (r.text, r.long)
 
-pub slice_bounds-is_same-end : goal.slice_bounds-is_same-end
-slice_bounds-is_same-end c =
+pub slice_bounds-eq-end : goal.slice_bounds-eq-end
+slice_bounds-eq-end c =
     let r = c.list_bale-n.ensures _ (c.take_piece-input.ensures [] (c.begin-start.ensures _ _ refl refl)).taken in
     sym (length-take-le _ _ (front_fits (listing c.args.file.now) _ _ _ (r.text, r.long)))
 
 pub returns : goal.returns
 returns c =
     let r = c.list_bale-n.ensures _ (c.take_piece-input.ensures [] (c.begin-start.ensures _ _ refl refl)).taken in
-    c.is_same.ensures ∙ ap (λ (l : List ℕ). same_bytes l c.args.text.now) (front-is (listing c.args.file.now) _ _ _ (r.text, r.long))
+    c.eq.ensures ∙ ap (λ (l : List ℕ). bytes_eq l c.args.text.now) (front-is (listing c.args.file.now) _ _ _ (r.text, r.long))

@@ -1,20 +1,11 @@
 -- `steps::single::factor_message` meets its contract.
-use mathlib.Core.Path.{◌≡◌, ap, ◌∙◌}
-use Prim.Native.Nat.{◌+◌, ◌-◌}
-use native.Mathlib.Omega.{arith}
-use lib.ListN.{length}
+use Rattle.std.proofs.Common.{◌≡◌, ap, ◌∙◌, ◌+◌, ◌-◌, arith, length}
 use Rattle.definition.specs.Vectors.{binary}
 use Rattle.graph_laws.specs.Lengths.{length-out_message_factor}
-use Rattle.list_laws.specs.Part.{length-region}
 use Rattle.list_laws.specs.Put.{put, put-part}
 use Rattle.node.specs.Rows.{given}
 use Rattle.messages.specs.Factor.{factor-part}
 use Rattle.steps.proofs.single.factor_message.Goals as goal
-
-pub out_message_factor-requires : goal.out_message_factor-requires
-out_message_factor-requires c =
-    let a = c.args in
-    omega (arith, c.requires.0, length-region a.w.now a.at (a.at + a.degree - a.at) (omega (arith, c.requires.1)))
 
 pub returns : goal.returns
 returns c =

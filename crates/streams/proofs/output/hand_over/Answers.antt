@@ -1,10 +1,7 @@
 -- `streams::output::hand_over` meets its contract.
 use Rattle.std.proofs.Common.{sym, ◌∙◌}
-use Rattle.streams.specs.Writes.{handed_nothing, handed_more, handed_stopped, handed_all, appends_nothing, taken-more}
+use Rattle.streams.specs.Writes.{handed_more, handed_stopped, taken-more}
 use Rattle.streams.proofs.output.hand_over.Goals as goal
-
-pub loop-done-init : goal.loop-done-init
-loop-done-init g c = (handed_nothing _, appends_nothing _)
 
 pub returns-then-took-eq0-clause-calls : goal.returns-then-took-eq0-clause-calls
 returns-then-took-eq0-clause-calls g c =
@@ -18,6 +15,3 @@ loop-done-preserved g c =
       handed_more _ _ c.loop-done.invariant.0 a.result a.ensures.within n.result n.ensures.within n.ensures.value,
       taken-more _ _ _ c.args.text.now c.loop-done.done n.result a.result c.loop-done.invariant.1 a.ensures.bytes n.ensures.value,
     )
-
-pub returns-clause-calls : goal.returns-clause-calls
-returns-clause-calls g c = handed_all _ _ c.loop-done.invariant.0 c.loop-done-test.false

@@ -1,19 +1,19 @@
 -- `sweeps::send_tree::rebuild_tree` meets its contract.
-use mathlib.Core.Path.{◌≡◌, sym, subst}
-use Prim.Native.Nat.{ℕ}
-use native.Mathlib.Omega.{arith}
-use lib.ListN.{length}
-use Rattle.sweeps.specs.SweepCopies.{Scattering}
+use Rattle.std.proofs.Common.{◌+◌, ◌-◌, ◌*◌, ◌∙◌, refl, rules, arith}
+use Rattle.std.specs.Float.Ieee.{of_bits}
+use Rattle.definition.specs.Floats.{zeroᶠ}
+use Rattle.list_laws.specs.Slices.{copy_within-put, fill-put}
 use Rattle.sweeps.specs.SweepRebuild.{rebuilt_is}
 use Rattle.sweeps.proofs.send_tree.rebuild_tree.Goals as goal
 
-pub scatter-requires : goal.scatter-requires
-scatter-requires c =
-    let a = c.args in
-    let e : length c.build_tree.new.w ≡ length a.w.now = omega arith in
-    subst (λ (n : ℕ). Scattering a.outs.now a.offsets.now a.l a.first a.k a.scratch n) (sym e) c.requires.scatters
-
 pub returns : goal.returns
+unfolding of_bits
 returns c =
     let a = c.args in
-    rebuilt_is a.outs.now a.offsets.now a.l a.first a.k a.scratch a.w.now c.requires c.word-from.result c.build_tree.new.w c.scatter.new.w c.clear_at.new.w c.copy_up.new.w c.word-from.ensures.0 c.build_tree.ensures c.scatter.ensures c.clear_at.ensures c.copy_up.ensures
+    let from = c.word-from.result in
+    let m = 3 * (a.k - 1) + 1 in
+    let cleared = fill-put c.scatter.new.w c.fill.new.self a.scratch (a.scratch + m - a.scratch) m zeroᶠ
+    (omega (arith, c.requires.building.room, c.requires.building.few)) (omega arith) (c.fill.ensures.after (λ y e. e)) in
+    let copied = c.copy_within.ensures.after ∙ copy_within-put _ from (from + m) (a.l + a.l + a.l + from) m (search rules) refl in
+    rebuilt_is a.outs.now a.offsets.now a.l a.first a.k a.scratch a.w.now c.requires from c.build_tree.new.w c.scatter.new.w _ c.copy_within.new.self
+    c.word-from.ensures.0 c.build_tree.ensures c.scatter.ensures cleared copied

@@ -2,43 +2,29 @@
 use native.Mathlib.Omega.{arith}
 use borrow.Author.Tests.{not-true, not-false}
 use mathlib.Core.Path.{sym, ◌∙◌}
-use Rattle.theorems.specs.Facts.{ended_bales, open_bale, open_short}
+use Rattle.theorems.specs.Facts.{open_bale, open_short}
 use Rattle.bale_answer.specs.Open.{none_open}
 use Rattle.tonnage.specs.Pieces.{took_as, settled_to, open_to, ended_to}
 use Rattle.tonnage.proofs.pieces.weigh_next.Goals as goal
 
 pub returns-then-not-is_waiting : goal.returns-then-not-is_waiting
-returns-then-not-is_waiting c = λ bs h. settled_to _ bs _ _ _ _ h _ (sym c.is_waiting.ensures ∙ c.if-not-is_waiting.true)
+returns-then-not-is_waiting c bs h = settled_to _ bs _ _ _ _ h _ (sym c.is_waiting.ensures ∙ c.if-not-is_waiting.true)
 
-pub take_bale-took-requires : goal.take_bale-took-requires
-take_bale-took-requires c =
+pub take_bale-took-requires-clause-piece_bound : goal.take_bale-took-requires-clause-piece_bound
+take_bale-took-requires-clause-piece_bound c =
     let x = c.requires.some_weighs in
     let o = x.weighs.held (sym c.is_waiting.ensures ∙ c.if-not-is_waiting.false) in
-    record { some_open_in = record { bytes = open_bale x.bytes; held = o }; piece_bound = omega (arith, o.taken.counted, open_short x.bytes, x.few) }
+    omega (arith, o.taken.counted, open_short x.bytes, x.few)
 
 pub returns-then-not-took : goal.returns-then-not-took
-returns-then-not-took c = λ bs h.
+returns-then-not-took c bs h =
     let o = h.held (sym c.is_waiting.ensures ∙ c.if-not-is_waiting.false) in
     let r = c.take_bale-took in
     let k = took_as (open_bale bs) _ _ r.result.input _ _ r.result.ended _ (not-true _ c.if-not-took.true) (r.ensures (open_bale bs) o) in
     open_to _ bs _ _ _ _ h _ _ _ _ _ k
 
-pub weigh_bale-weighed-requires : goal.weigh_bale-weighed-requires
-weigh_bale-weighed-requires c =
-    let x = c.requires.some_weighs in
-    let o = x.weighs.held (sym c.is_waiting.ensures ∙ c.if-not-is_waiting.false) in
-    let r = c.take_bale-took in
-    let k = took_as (open_bale x.bytes) c.args.piece.now r.result.used r.result.input _ _ r.result.ended _ (not-false _ c.if-not-took.false) (r.ensures (open_bale x.bytes) o) in
-    record { some_tally = record { ended = ended_bales x.bytes; holds = x.weighs.tally }; some_taken = record { bytes = _; taken = k.3.taken }; work_floats_len = c.requires.work_floats_len }
-
-pub shape_of-markers : goal.shape_of-markers
-shape_of-markers c = c.take_bale-took.auto.markers
-
-pub shape_of-pairs : goal.shape_of-pairs
-shape_of-pairs c = c.take_bale-took.auto.pairs
-
 pub returns : goal.returns
-returns c = λ bs h.
+returns c bs h =
     let o = h.held (sym c.is_waiting.ensures ∙ c.if-not-is_waiting.false) in
     let r = c.take_bale-took in
     let k = took_as (open_bale bs) _ _ r.result.input _ _ r.result.ended _ (not-false _ c.if-not-took.false) (r.ensures (open_bale bs) o) in

@@ -8,11 +8,11 @@ use borrow.Author.Rules.{rules}
 use Rattle.tonnage.specs.Pieces.{weighs_none}
 use Rattle.tonnage.proofs.pieces.weigh_shift.Goals as goal
 
-pub weigh_piece-all-requires : goal.weigh_piece-all-requires
-weigh_piece-all-requires c =
+pub weigh_piece-all-requires-clause-some_weighs : goal.weigh_piece-all-requires-clause-some_weighs
+weigh_piece-all-requires-clause-some_weighs c =
     let l : length c.args.shift.now < 2 ^ 64 = search rules in
     let f : 0 + length c.args.shift.now < 2 ^ 64 = omega (arith, l) in
-    record { some_weighs = record { bytes = []; weighs = weighs_none _ _ _ _ _ _ c.requires c.begin-tally.ensures (c.begin-input.ensures _ _ refl refl); few = f }; work_floats_len = (refl, refl) }
+    record { bytes = []; weighs = weighs_none _ _ _ _ _ _ c.requires c.begin-tally.ensures (c.begin-input.ensures _ _ refl refl); few = f }
 
 pub returns : goal.returns
 returns c =

@@ -1,59 +1,46 @@
 -- `call::try_settings` meets its contract.
-use Prim.Native.Nat.{ℕ, ◌/◌}
-use native.Mathlib.Omega.{arith}
-use mathlib.Core.Path.{◌≡◌, refl, sym, ap, ◌∙◌}
-use lib.Ieee.{Float}
-use lib.ListN.{length, replicate}
-use mathlib.Core.Bool.{false}
-use mathlib.Core.List.{List}
-use Rattle.definition.specs.Report.{ReportLent, report_sizes}
-use Rattle.definition.specs.Trials.{trial_verdict, trials_of}
-use Rattle.checks.specs.Verdicts.{verdict_of}
-use Rattle.checks.specs.declared.Verdict.{Verdict}
-use Rattle.checks.specs.declared.Verdict.TheVariants.{Accepted}
+use Rattle.std.proofs.Common.{◌/◌, length, replicate, arith, refl, sym}
+use Rattle.std.proofs.Math.Bool.{false}
+use Rattle.std.proofs.lemmas.Result.{err_from_is_err_and}
+use Rattle.definition.specs.Report.{report_sizes}
 use Rattle.reads.specs.Put.{read_floats}
 use Rattle.reads.specs.Reported.{report_lent_with}
 use Rattle.trials.specs.Each.{weak-long}
 use Rattle.trials.specs.Called.{Triable, few_settings, call_refused, call_tried}
 use Rattle.trials.proofs.call.try_settings.Goals as goal
+use Rattle.trials.proofs.call.try_settings.Goals.{In_ok-check_trials}
 
--- what the call was given
-
--- and what the checks said of it, v being how the verdict is told
-
-pub returns-in-Refused : goal.returns-in-Refused
+-- an accepted call
+triable :
+    (c : In_ok-check_trials) → let a = c.args in
+    Triable a.settings.now a.seed a.bales a.regularised a.tolerance a.loop_limit a.grades (length a.evidence.now / 2) a.pairs.now
+    (report_lent_with a.work_floats.now a.work_numbers.now a.report.now)
 unfolding report_sizes
-returns-in-Refused c =
-    let lent : ReportLent = report_lent_with c.args.work_floats.now c.args.work_numbers.now c.args.report.now in
-    let judged : (v : Verdict) → c.check_trials-verdict.result ≡ v → (es : List Float) → length es / 2 ≡ length c.args.evidence.now / 2 → verdict_of v ≡ trial_verdict (report_sizes lent) (trials_of c.args.settings.now c.args.seed c.args.bales c.args.regularised c.args.tolerance c.args.loop_limit c.args.grades es c.args.pairs.now) = λ v e es n. ap verdict_of (sym e) ∙ c.check_trials-verdict.ensures es n in
+triable c = let m = length c.args.evidence.now / 2 in sym (c.in_ok-check_trials.ensures (read_floats (replicate m false)) (weak-long m))
+
+pub returns-in_err-check_trials : goal.returns-in_err-check_trials
+unfolding report_sizes
+returns-in_err-check_trials c =
     let a = c.args in
-    call_refused a.settings.now a.seed a.bales a.regularised a.tolerance a.loop_limit a.grades a.evidence.now a.pairs.now lent _ _ (judged _ c.in-Refused.is a.evidence.now refl)
+    let l = report_lent_with a.work_floats.now a.work_numbers.now a.report.now in
+    let p = err_from_is_err_and c.from_residual.result c.from_residual.ensures.1 in
+    rw (p.1, p.2)
+    (call_refused a.settings.now a.seed a.bales a.regularised a.tolerance a.loop_limit a.grades a.evidence.now a.pairs.now l _
+    (c.in_err-check_trials.ensures a.evidence.now refl))
 
 pub try_accepted-requires : goal.try_accepted-requires
-unfolding report_sizes
-try_accepted-requires c =
-    let lent : ReportLent = report_lent_with c.args.work_floats.now c.args.work_numbers.now c.args.report.now in
-    let m : ℕ = length c.args.evidence.now / 2 in
-    let judged : (v : Verdict) → c.check_trials-verdict.result ≡ v → (es : List Float) → length es / 2 ≡ length c.args.evidence.now / 2 → verdict_of v ≡ trial_verdict (report_sizes lent) (trials_of c.args.settings.now c.args.seed c.args.bales c.args.regularised c.args.tolerance c.args.loop_limit c.args.grades es c.args.pairs.now) = λ v e es n. ap verdict_of (sym e) ∙ c.check_trials-verdict.ensures es n in
-    let triable : c.check_trials-verdict.result ≡ Accepted → Triable c.args.settings.now c.args.seed c.args.bales c.args.regularised c.args.tolerance c.args.loop_limit c.args.grades m c.args.pairs.now lent = λ e. sym (judged Accepted e (read_floats (replicate m false)) (weak-long m)) in
-    triable c.in_default.is
+try_accepted-requires c = triable (goal.at.try_accepted-requires c).In_ok-check_trials
 
 pub overflow_cast-result : goal.overflow_cast-result
-unfolding report_sizes
 overflow_cast-result c =
-    let lent : ReportLent = report_lent_with c.args.work_floats.now c.args.work_numbers.now c.args.report.now in
-    let m : ℕ = length c.args.evidence.now / 2 in
-    let judged : (v : Verdict) → c.check_trials-verdict.result ≡ v → (es : List Float) → length es / 2 ≡ length c.args.evidence.now / 2 → verdict_of v ≡ trial_verdict (report_sizes lent) (trials_of c.args.settings.now c.args.seed c.args.bales c.args.regularised c.args.tolerance c.args.loop_limit c.args.grades es c.args.pairs.now) = λ v e es n. ap verdict_of (sym e) ∙ c.check_trials-verdict.ensures es n in
-    let triable : c.check_trials-verdict.result ≡ Accepted → Triable c.args.settings.now c.args.seed c.args.bales c.args.regularised c.args.tolerance c.args.loop_limit c.args.grades m c.args.pairs.now lent = λ e. sym (judged Accepted e (read_floats (replicate m false)) (weak-long m)) in
     let a = c.args in
-    omega (arith, few_settings a.settings.now a.seed a.bales a.regularised a.tolerance a.loop_limit a.grades m a.pairs.now lent (triable c.in_default.is))
+    let l = report_lent_with a.work_floats.now a.work_numbers.now a.report.now in
+    let h = triable (goal.at.overflow_cast-result c).In_ok-check_trials in
+    omega (arith, few_settings a.settings.now a.seed a.bales a.regularised a.tolerance a.loop_limit a.grades _ a.pairs.now l h)
 
 pub returns : goal.returns
-unfolding report_sizes
 returns c =
-    let lent : ReportLent = report_lent_with c.args.work_floats.now c.args.work_numbers.now c.args.report.now in
-    let m : ℕ = length c.args.evidence.now / 2 in
-    let judged : (v : Verdict) → c.check_trials-verdict.result ≡ v → (es : List Float) → length es / 2 ≡ length c.args.evidence.now / 2 → verdict_of v ≡ trial_verdict (report_sizes lent) (trials_of c.args.settings.now c.args.seed c.args.bales c.args.regularised c.args.tolerance c.args.loop_limit c.args.grades es c.args.pairs.now) = λ v e es n. ap verdict_of (sym e) ∙ c.check_trials-verdict.ensures es n in
-    let triable : c.check_trials-verdict.result ≡ Accepted → Triable c.args.settings.now c.args.seed c.args.bales c.args.regularised c.args.tolerance c.args.loop_limit c.args.grades m c.args.pairs.now lent = λ e. sym (judged Accepted e (read_floats (replicate m false)) (weak-long m)) in
     let a = c.args in
-    call_tried a.settings.now a.seed a.bales a.regularised a.tolerance a.loop_limit a.grades a.evidence.now a.pairs.now lent _ _ refl (triable c.in_default.is) c.try_accepted.ensures
+    let l = report_lent_with a.work_floats.now a.work_numbers.now a.report.now in
+    let h = triable (goal.at.returns c).In_ok-check_trials in
+    call_tried a.settings.now a.seed a.bales a.regularised a.tolerance a.loop_limit a.grades a.evidence.now a.pairs.now l _ _ refl h c.try_accepted.ensures

@@ -30,7 +30,6 @@ fill_leaves-requires c =
     let w = c.args.words.now in
     let l : c.leaves_for-leaves.result ≡ leaves_in w = c.leaves_for-leaves.ensures ∙ ap (λ (n : ℕ). leaves_for (2 * n)) c.word-edges.ensures.0 in
     let r = S.stands.part.room in record {
-      table_value = c.requires.table_value;
       some_standing_any = record {
         settings = S.settings;
         given = S.given;

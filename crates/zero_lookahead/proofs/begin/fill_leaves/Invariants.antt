@@ -1,9 +1,6 @@
 -- `zero_lookahead::begin::fill_leaves` meets its contract: the keys of the first d leaves are written.
-use mathlib.Core.Path.{◌≡◌}
-use mathlib.Core.List.{List}
-use Prim.Native.Nat.{◌-◌, ◌≤◌}
+use Rattle.std.proofs.Common.{◌≡◌, List}
 use lib.Ieee.{Float}
-use lib.ListN.{length}
 use Rattle.definition.specs.Settings.{Settings}
 use Rattle.definition.specs.Directions.{MessageGraph}
 use Rattle.definition.specs.Sweeps.{Store}
@@ -14,9 +11,5 @@ use Rattle.zero_lookahead.proofs.begin.fill_leaves.Given as goal
 
 abbrev pub invariant-loop-d : goal.invariant-loop-d
 invariant-loop-d l =
-    (l.d ≤ l.leaves)
-    × (length l.words ≡ length l.initial.words)
-    × ((s : Settings) (t : MessageGraph) (evidence : List Float) (x : Store) → StandsFor s t l.out evidence x l.initial.words l.w → Given s l.settings → l.words ≡ write l.initial.words l.at l.d (leaf_key s t x))
-
-abbrev pub decreases-loop-d : goal.decreases-loop-d
-decreases-loop-d l = l.leaves - l.d
+    (s : Settings) (t : MessageGraph) (evidence : List Float) (x : Store) → StandsFor s t l.out evidence x l.initial.words l.w → Given s l.settings
+    → l.words ≡ write l.initial.words l.at l.d (leaf_key s t x)

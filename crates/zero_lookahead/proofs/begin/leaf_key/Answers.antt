@@ -68,7 +68,7 @@ initial_key-requires c =
     let to = c.word-to.result in
     let p : length (region w from (to - from)) ≡ to - from = length-region w from (to - from) (omega (arith, r.0, r.1, r.2)) in
     let q : length (region w (2 * l + from) (2 * l + to - (2 * l + from))) ≡ 2 * l + to - (2 * l + from) = length-region w (2 * l + from) (2 * l + to - (2 * l + from)) (omega (arith, r.0, r.1, r.2)) in
-    record { table_value = c.requires.table_value; in_bounds = (omega (arith, p, r.3), omega (arith, p, q)) }
+    record { in_bounds = (omega (arith, p, r.3), omega (arith, p, q)) }
 
 pub returns : goal.returns
 returns c =

@@ -11,7 +11,6 @@ pub open_part-requires : goal.open_part-requires
 open_part-requires c =
     let S = c.requires.some_part_room in
     let C = cleared S.room c.clear_pending.new.w c.clear_pending.ensures in record {
-      table_value = c.requires.table_value;
       some_open_floats = record {
         settings = S.settings;
         graph = S.graph;

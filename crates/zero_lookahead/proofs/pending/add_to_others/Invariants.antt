@@ -1,7 +1,5 @@
 -- `zero_lookahead::pending::add_to_others` meets its contract.
-use Prim.Native.Nat.{◌-◌, ◌*◌, ◌≤◌}
-use mathlib.Core.Path.{◌≡◌}
-use lib.ListN.{length}
+use Rattle.std.proofs.Common.{◌*◌, ◌≡◌, length}
 use Rattle.definition.specs.Run.{add_pending}
 use Rattle.list_laws.specs.Part.{region}
 use Rattle.messages.specs.LayoutWords.{others_to}
@@ -11,9 +9,10 @@ use Rattle.zero_lookahead.proofs.pending.add_to_others.Given as goal
 
 abbrev pub invariant-loop-k : goal.invariant-loop-k
 invariant-loop-k l =
-    let os = region l.initial.words l.outs (length l.initial.pending) in
-    (l.from ≤ l.k) × (l.k ≤ l.to) × WaitingAt l.queue l.leaves l.pending l.words × OnlyAt l.queue (2 * l.leaves) l.initial.words l.words × (l.pending ≡ add_pending l.r (others_to os l.from l.d l.k) l.initial.pending)
-    × AllKept l.leaves (length l.initial.pending) (add_pending l.r (others_to os l.from l.d l.to) l.initial.pending) (others_to os l.from l.d l.k) (region l.initial.words l.queue (2 * l.leaves)) (region l.words l.queue (2 * l.leaves))
-
-abbrev pub decreases-loop-k : goal.decreases-loop-k
-decreases-loop-k l = l.to - l.k
+    let os = region l.initial.words l.outs (length l.initial.pending) in record {
+      waiting : WaitingAt l.queue l.leaves l.pending l.words;
+      only : OnlyAt l.queue (2 * l.leaves) l.initial.words l.words;
+      added : l.pending ≡ add_pending l.r (others_to os l.from l.d l.k) l.initial.pending;
+      kept : AllKept l.leaves (length l.initial.pending) (add_pending l.r (others_to os l.from l.d l.to) l.initial.pending) (others_to os l.from l.d l.k)
+          (region l.initial.words l.queue (2 * l.leaves)) (region l.words l.queue (2 * l.leaves));
+    }

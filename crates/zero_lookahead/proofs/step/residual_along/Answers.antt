@@ -6,7 +6,7 @@ pub residual_at-requires : goal.residual_at-requires
 residual_at-requires c =
     let a = c.args in
     let S = c.requires.some_stands.0 in
-    record { table_value = c.requires.table_value; along = rw c.offsets_row.ensures (stands_along S.settings S.graph a.out S.evidence S.store a.words.now a.w.now S.stands a.d c.requires.some_stands.1) }
+    record { along = rw c.offsets_row.ensures (stands_along S.settings S.graph a.out S.evidence S.store a.words.now a.w.now S.stands a.d c.requires.some_stands.1) }
 
 pub returns : goal.returns
 returns c =

@@ -14,7 +14,7 @@ update_message-next-requires c =
     let a = c.args in
     let Y = c.requires.some_running in
     let W = (c.log_changed.ensures Y.settings Y.graph a.evidence.now Y.state.store Y.state.pending (queue_row a.words.now a.out) (running_with Y.settings Y.graph a.out a.evidence.now Y.state a.words.now a.w.now Y.runs)) in
-    record { table_value = c.requires.table_value; some_standing = (record { settings = Y.settings; given = Y.given; graph = Y.graph; store = logged_store Y.graph (changed_of Y.graph (changed_from a.changed)) Y.state.store; stands = W.stands }, c.requires.d_bound.0) }
+    record { some_standing = (record { settings = Y.settings; given = Y.given; graph = Y.graph; store = logged_store Y.graph (changed_of Y.graph (changed_from a.changed)) Y.state.store; stands = W.stands }, c.requires.d_bound.0) }
 
 pub add_along-requires : goal.add_along-requires
 add_along-requires c =

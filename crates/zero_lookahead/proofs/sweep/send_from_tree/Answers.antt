@@ -54,7 +54,7 @@ pub send_tree-requires : goal.send_tree-requires
 send_tree-requires c =
     let p = c.requires.some_node_of.some.rows in
     let k = degree-is p.part _ _ _ c.firsts_row-firsts.ensures c.outs_row-outs.ensures c.offsets_row-offsets.ensures c.args.n c.word-first.result c.word.result p.node c.word-first.ensures.0 c.word.ensures.0 in
-    record { table_value = c.requires.table_value; directed = tree_ready p _ _ _ c.firsts_row-firsts.ensures c.outs_row-outs.ensures c.offsets_row-offsets.ensures c.word-l.result c.word-first.result c.word-l.ensures.0 c.word-first.ensures.0 (c.word.result - c.word-first.result) k _ c.requires.some_node_of.kind refl }
+    record { directed = tree_ready p _ _ _ c.firsts_row-firsts.ensures c.outs_row-outs.ensures c.offsets_row-offsets.ensures c.word-l.result c.word-first.result c.word-l.ensures.0 c.word-first.ensures.0 (c.word.result - c.word-first.result) k _ c.requires.some_node_of.kind refl }
 
 pub returns : goal.returns
 returns c =

@@ -46,7 +46,7 @@ send_variable-requires c =
     let q = c.requires.some_node in
     let p = q.0.rows in
     let k = degree-is p.part _ _ _ c.firsts_row-firsts.ensures c.outs_row-outs.ensures c.offsets_row-offsets.ensures c.args.n c.word-first.result c.word.result p.node c.word-first.ensures.0 c.word.ensures.0 in
-    record { table_value = c.requires.table_value; first_in_bounds = variable_ready p _ _ _ c.firsts_row-firsts.ensures c.outs_row-outs.ensures c.offsets_row-offsets.ensures c.word-l.result c.word-first.result c.word-l.ensures.0 c.word-first.ensures.0 (c.word.result - c.word-first.result) k (variable_kind p q.1 q.2) }
+    record { first_in_bounds = variable_ready p _ _ _ c.firsts_row-firsts.ensures c.outs_row-outs.ensures c.offsets_row-offsets.ensures c.word-l.result c.word-first.result c.word-l.ensures.0 c.word-first.ensures.0 (c.word.result - c.word-first.result) k (variable_kind p q.1 q.2) }
 
 pub returns : goal.returns
 returns c =

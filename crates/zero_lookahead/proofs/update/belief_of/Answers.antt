@@ -7,15 +7,15 @@ word-requires c =
     let a = c.args in
     sender_room a.words.now a.evidence.now a.n c.requires
 
-pub returns-then-word-eq1 : goal.returns-then-word-eq1
-returns-then-word-eq1 c =
+pub returns-then-word : goal.returns-then-word
+returns-then-word c =
     let a = c.args in
-    λ s t out P e h v. absurd (factor_other s t out a.evidence.now a.words.now P a.n c.word.result h c.word.ensures.0 c.if-word-eq1.true v)
+    λ s t out P e h v. absurd (factor_other s t out a.evidence.now a.words.now P a.n c.word.result h c.word.ensures.0 c.if-word.true v)
 
 pub initial_belief-requires : goal.initial_belief-requires
 initial_belief-requires c =
     let a = c.args in
-    sender_variable a.words.now a.evidence.now a.n c.word.result c.requires c.word.ensures.0 c.if-word-eq1.false
+    sender_variable a.words.now a.evidence.now a.n c.word.result c.requires c.word.ensures.0 c.if-word.false
 
 pub returns : goal.returns
 returns c = c.initial_belief.ensures

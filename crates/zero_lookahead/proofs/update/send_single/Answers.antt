@@ -23,7 +23,6 @@ update_single-requires c =
     let p = single_at S.settings S.graph a.out a.evidence.now S.store a.words.now a.w.now S.stands a.d a.n c.requires.some_standing.1 a.settings m G
     (λ v. z.ensures S.settings S.graph a.out S.stands.part (ap (λ (y : definition.Settings). y.prior) G) (start-node S.settings S.graph a.out a.evidence.now a.words.now S.stands.part a.d a.n c.requires.some_standing.1.there c.requires.some_standing.1.start) v) in
     record {
-      table_value = c.requires.table_value;
       single_reads = rw (c.kinds_row-kinds.ensures, c.firsts_row-firsts.ensures, c.starts_row-starts.ensures, c.outs_row-outs.ensures) (single_reads _ _ _ _ _ a.w.now a.d m a.settings.alpha a.settings.beta a.settings.regularised p);
       single_at = rw (c.kinds_row-kinds.ensures, c.firsts_row-firsts.ensures, c.starts_row-starts.ensures, c.outs_row-outs.ensures, c.offsets_row-offsets.ensures) p;
     }

@@ -10,7 +10,7 @@ send_from_tree-anew-requires c =
     let a = c.args in
     let T = c.requires.some_tree in
     let S = T.some in
-    record { table_value = c.requires.table_value; some_node_of = tree-node S.settings S.graph a.out S.evidence S.store a.words.now a.w.now S.stands a.n T.there T.kind }
+    record { some_node_of = tree-node S.settings S.graph a.out S.evidence S.store a.words.now a.w.now S.stands a.n T.there T.kind }
 
 pub take_around-requires : goal.take_around-requires
 take_around-requires c =

@@ -15,7 +15,7 @@ returns-then-words-le2 c = record { kept_front = refl; written = λ b h. small_w
 pub run_part-part-requires : goal.run_part-part-requires
 run_part-part-requires c =
     let x = c.requires.some_asked in
-    record { table_value = c.requires.table_value; some_large = record { bale = x.bale; number = _; part = asked_large _ x.bale _ _ _ _ _ _ x.part c.if-words-le2.false } }
+    record { some_large = record { bale = x.bale; number = _; part = asked_large _ x.bale _ _ _ _ _ _ x.part c.if-words-le2.false } }
 
 pub end_part-requires : goal.end_part-requires
 end_part-requires c =

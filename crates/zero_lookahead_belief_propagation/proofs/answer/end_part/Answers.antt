@@ -12,5 +12,5 @@ bounds-numbers-2 c = simp length-set (omega arith)
 
 pub returns : goal.returns
 returns c =
-    let e = c.ending_words-e.ensures in
+    let e = c.from-e.ensures in
     record { numbers_after = rw e.0 (four_stored _ _ _ _ c.args.numbers.now c.requires.0); floats_after = rw e.1 (one_stored _ c.args.floats.now c.requires.1) }

@@ -12,7 +12,7 @@ pub run-ended-requires : goal.run-ended-requires
 run-ended-requires c =
     let x = c.requires.some_large in
     let f = c.fill_directions in
-    record { table_value = c.requires.table_value; some_part_room = record { settings = _; given = refl; graph = _; room = large_room _ x.bale x.number _ _ _ _ _ _ x.part _ (f.ensures _ _ x.part.placed.recorded) _ refl f.auto.words } }
+    record { some_part_room = record { settings = _; given = refl; graph = _; room = large_room _ x.bale x.number _ _ _ _ _ _ x.part _ (f.ensures _ _ x.part.placed.recorded) _ refl f.auto.words } }
 
 pub beliefs-count-requires : goal.beliefs-count-requires
 beliefs-count-requires c =
@@ -20,7 +20,7 @@ beliefs-count-requires c =
     let f = c.fill_directions in
     let r = c.run-ended in
     let e = f.ensures _ _ x.part.placed.recorded in
-    record { table_value = c.requires.table_value; some_beliefs = large-beliefs _ x.bale x.number _ _ _ _ _ _ x.part _ e _ _ _ _ r.auto.words r.ensures.kept_front (r.ensures.ran _ _ (large_room _ x.bale x.number _ _ _ _ _ _ x.part _ e _ refl f.auto.words) refl refl) _ refl }
+    record { some_beliefs = large-beliefs _ x.bale x.number _ _ _ _ _ _ x.part _ e _ _ _ _ r.auto.words r.ensures.kept_front (r.ensures.ran _ _ (large_room _ x.bale x.number _ _ _ _ _ _ x.part _ e _ refl f.auto.words) refl refl) _ refl }
 
 pub returns : goal.returns
 returns c =

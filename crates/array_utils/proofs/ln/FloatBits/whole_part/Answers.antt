@@ -60,9 +60,6 @@ pub returns-then-t : goal.returns-then-t
 unfolding of_bits
 returns-then-t c = none c.args.t c.requires c.if-t.true
 
-pub float_to_bits-bits : goal.float_to_bits-bits
-float_to_bits-bits c = in_number c.requires
-
 pub overflow_sub-result : goal.overflow_sub-result
 overflow_sub-result c = omega (arith, high c)
 

@@ -6,7 +6,7 @@ use Rattle.definition.specs.Floats.{◌⊕◌, ◌⊖◌, zeroᶠ, maxᶠ, ln, e
 use Rattle.definition.specs.Vectors.{binary, log_normalize}
 use Rattle.message_bounds.specs.LogNormalize.{log_sum, left_below, right_below, left-rest, right_rest}
 use Rattle.array_utils.proofs.message.VariableMessage.log_normalize.Goals as goal
-use Rattle.array_utils.proofs.message.VariableMessage.log_normalize.Goals.{After-ln_from_table-log_sum_exp}
+use Rattle.array_utils.proofs.message.VariableMessage.log_normalize.Goals.{After-ln-log_sum_exp}
 
 -- ---- with what the calls ensure
 diff : (x a b m : Float) → m ≡ maxᶠ a b → T (le (x ⊖ maxᶠ a b) zeroᶠ) → T (le (x ⊖ m) zeroᶠ)
@@ -23,10 +23,10 @@ unfolding log_normalize
 both a b m s u v e f p q = rw (p, q, f, e)
 
 -- the logarithm, where it is known
-known : (c : After-ln_from_table-log_sum_exp) → c.ln_from_table-log_sum_exp.result ≡ log_sum c.args.self.absent c.args.self.present
+known : (c : After-ln-log_sum_exp) → c.ln-log_sum_exp.result ≡ log_sum c.args.self.absent c.args.self.present
 known c =
     let x = c.args.self in
-    summed x.absent x.present c.max-largest.result c.exp-ea.result c.exp-eb.result c.ln_from_table-log_sum_exp.result c.max-largest.ensures c.exp-ea.ensures c.exp-eb.ensures c.ln_from_table-log_sum_exp.ensures
+    summed x.absent x.present c.max-largest.result c.exp-ea.result c.exp-eb.result c.ln-log_sum_exp.result c.max-largest.ensures c.exp-ea.ensures c.exp-eb.ensures c.ln-log_sum_exp.ensures
 
 pub exp-ea-requires : goal.exp-ea-requires
 exp-ea-requires c =
@@ -44,15 +44,15 @@ pub exp-requires : goal.exp-requires
 exp-requires c =
     let x = c.args.self in
     let p = c.requires.t in
-    rest x.absent x.absent x.present c.max-largest.result c.ln_from_table-log_sum_exp.result c.max-largest.ensures (known c) (left-rest x.absent x.present p.0 p.1)
+    rest x.absent x.absent x.present c.max-largest.result c.ln-log_sum_exp.result c.max-largest.ensures (known c) (left-rest x.absent x.present p.0 p.1)
 
 pub exp-requires-2 : goal.exp-requires-2
 exp-requires-2 c =
     let x = c.args.self in
     let p = c.requires.t in
-    rest x.present x.absent x.present c.max-largest.result c.ln_from_table-log_sum_exp.result c.max-largest.ensures (known c.before) (right_rest x.absent x.present p.0 p.1)
+    rest x.present x.absent x.present c.max-largest.result c.ln-log_sum_exp.result c.max-largest.ensures (known c.before) (right_rest x.absent x.present p.0 p.1)
 
 pub returns : goal.returns
 returns c =
     let x = c.args.self in
-    both x.absent x.present c.max-largest.result c.ln_from_table-log_sum_exp.result c.exp.result c.exp-2.result c.max-largest.ensures (known c.before.before) c.exp.ensures c.exp-2.ensures
+    both x.absent x.present c.max-largest.result c.ln-log_sum_exp.result c.exp.result c.exp-2.result c.max-largest.ensures (known c.before.before) c.exp.ensures c.exp-2.ensures
