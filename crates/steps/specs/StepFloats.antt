@@ -1,16 +1,18 @@
 -- The floats of a component, row by row: what is read of one row, and what is put into one.
-use Rattle.std.specs.Prelude.{ℕ, ◌+◌, ◌*◌, ◌≤◌, ◌≡◌, ◌⊎◌, Float, get_or}
+use Rattle.std.specs.Prelude.{ℕ, ◌+◌, ◌*◌, ◌≤◌, ◌<◌, ◌≡◌, ◌⊎◌, Float, get_or, set}
 use native.Mathlib.Omega.{arith}
 use Rattle.std.proofs.Math.Path.{sym, ap}
-use Rattle.std.proofs.Common.{◌∙◌, length-append, length-drop, drop_of_length-le, ext_get_or, take_all}
+use Rattle.std.proofs.Common.{◌∙◌, ⊎_elim, length-append, length-drop, drop_of_length-le, ext_get_or, take_all}
 use mathlib.Core.List.{List, ◌++◌, append_assoc}
+use Rattle.std.specs.Float.{nan}
 use Rattle.std.proofs.Math.ListN.{length, take, drop}
 use Rattle.std.proofs.lemmas.List.{take-append-le, drop-append-le}
 use Rattle.std.proofs.Math.Seq.{take-append-add, drop-append-add}
 use Rattle.graph_laws.specs.Lists.{append_none}
 use Rattle.definition.specs.Directions.{MessageGraph}
 use Rattle.list_laws.specs.Part.{region, length-region, get_d_region}
-use Rattle.list_laws.specs.Put.{put}
+use Rattle.list_laws.specs.Put.{put, put_is}
+use Rattle.list_laws.specs.Write.{write, length-write, write_in, write-below, write-above, kept-below, kept_above, write-next}
 use Rattle.messages.specs.Layout.{width}
 use Rattle.messages.specs.State.{FloatRows, part_floats}
 
@@ -61,13 +63,35 @@ module _ {A : Type 0} where
       ∙ ap (λ (j : ℕ). get_or l j d) (let z : b + (k + i) ≡ b + k + i = omega arith in z)
       ∙ sym (get_d_region l (b + k) m i d (omega arith)))
 
--- ---- a range copied
+-- ---- a range copied: what a loop that copies one float after the other leaves
 
 -- two ranges of n that lie apart
 pub record Apart (from to n long : ℕ) : Type 0 where
   pub from_in : from + n ≤ long
   pub to_in : to + n ≤ long
   pub apart : (from + n ≤ to) ⊎ (to + n ≤ from)
+
+abbrev pub copying : List Float → ℕ → ℕ → ℕ → List Float
+copying l from to i = write l to i (λ k. get_or l (from + k) nan)
+
+module _ (l : List Float) (from to n : ℕ) (p : Apart from to n (length l)) where
+  -- what is read is as it was
+  pub copy_reads : (w : List Float) (i : ℕ) → i < n → w ≡ copying l from to i → get_or w (from + i) nan ≡ get_or l (from + i) nan
+  copy_reads w i h e =
+      ⊎_elim (λ (u : from + n ≤ to). kept-below l w (λ k. get_or l (from + k) nan) to i (from + i) nan e (omega arith))
+      (λ u. kept_above l w (λ k. get_or l (from + k) nan) to i (from + i) nan e (omega arith)) p.apart
+
+  pub copy_next : (w : List Float) (i : ℕ) → i < n → w ≡ copying l from to i → set w (to + i) (get_or w (from + i) nan) ≡ copying l from to (i + 1)
+  copy_next w i h e = write-next l w (λ k. get_or l (from + k) nan) to i (get_or w (from + i) nan) e (copy_reads w i h e)
+
+  pub copy_all : copying l from to n ≡ put l to (region l from n)
+  copy_all =
+      let f : ℕ → Float = λ k. get_or l (from + k) nan in
+      let m : length (region l from n) ≡ n = length-region l from n p.from_in in
+      put_is nan (write l to n f) l to (region l from n) (omega (arith, p.to_in)) (length-write l to n f)
+      (λ k q. write_in l to n k f nan (omega arith) p.to_in ∙ sym (get_d_region l from n k nan (omega arith)))
+      (λ j q. write-below l to n j f nan q)
+      (λ j q. write-above l to n j f nan (omega arith))
 
 -- ---- the rows of a component
 

@@ -20,6 +20,17 @@ pub enum Changed {
     Around(u32),
 }
 
+// A range of the floats, copied to another that lies apart from it. std's `copy_within` begins at the end where it copies up, which takes longer on a
+// node of many neighbours.
+fn copy_range(w: &mut [f32], from: usize, to: usize, n: usize)
+    requires { Apart from to n (length w.old) }
+    ensures { w.new ≡ put w.old to (region w.old from n) }
+{
+    for i in 0..n {
+        w[to + i] = w[from + i];
+    }
+}
+
 // All that node n holds in the row at `from`, copied to the row at `to`.
 fn copy_node(w: &mut [f32], firsts: &[u32], offsets: &[u32], from: usize, to: usize, n: usize)
     requires node_in { NodeIn firsts.now offsets.now n }
@@ -28,7 +39,7 @@ fn copy_node(w: &mut [f32], firsts: &[u32], offsets: &[u32], from: usize, to: us
 {
     let begin = offsets[firsts[n] as usize] as usize;
     let end = offsets[firsts[n + 1] as usize] as usize;
-    w.copy_within(from + begin..from + end, to + begin);
+    copy_range(w, from + begin, to + begin, end - begin);
 }
 
 // All that the neighbours of node n hold, copied likewise.
