@@ -126,14 +126,16 @@ fn table_entries(numbers: &[u32; 1025]) -> [f32; 1025]
 }
 
 // The table, made once and lent to each call that takes a logarithm.
-#[derive(Drop)]
+#[derive(Clone, Copy)]
 pub struct LogTable {
-    pub(crate) entries: [f32; 1025],
-    ghost is_log_table: { entries ≡ log_table },
+    pub entries: [f32; 1025],
+    pub ghost is_log_table: { entries ≡ log_table },
 }
 
 impl LogTable {
-    pub fn new() -> LogTable {
+    pub fn new() -> LogTable
+        ensures { result.entries ≡ log_table }
+    {
         let numbers = LOG_TABLE;
         LogTable {
             entries: table_entries(&numbers),
