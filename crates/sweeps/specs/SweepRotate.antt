@@ -1,31 +1,20 @@
 -- Three rows of l floats that change places: each gets the next one's, and the last one the first one's.
-use Rattle.std.specs.Prelude.{ℕ, ◌+◌, ◌≤◌, ◌≡◌, List, ◌++◌, Float, length, take, drop}
-use Rattle.std.proofs.Common.{arith, sym, ap, ◌∙◌, append_assoc, length-take-le, take-add, drop-drop, take_at, drop_at}
+use Rattle.std.specs.Prelude.{ℕ, ◌+◌, ◌≡◌, List, ◌++◌, Float, length, take, drop}
+use Rattle.std.proofs.Common.{arith, sym, ap, ◌∙◌, drop-drop, take_at, drop_at}
 use Rattle.std.proofs.Math.Seq.{drop-append-add}
 use Rattle.list_laws.specs.Part.{region}
 
 abbrev pub rotated : ℕ → List Float → List Float
 rotated l w = region w l l ++ (region w (l + l) l ++ (region w 0 l ++ drop (l + l + l) w))
 
--- as the code leaves it: the three rows in front, turned to the left by one
-pub rotated-left : (l n : ℕ) (w p : List Float) → n ≡ l + l + l → n ≤ length w → p ≡ drop l (take n w) ++ take l (take n w) → p ++ drop n w ≡ rotated l w
-rotated-left l n w p e h q =
-    let x = take l w in
-    let y = region w l l in
-    let z = region w (l + l) l in
-    let r = drop n w in
-    let lx : length x ≡ l = length-take-le l w (omega arith) in
-    let three : take n w ≡ x ++ (y ++ z) =
-    ap (λ (k : ℕ). take k w) (let f : n ≡ l + (l + l) = omega arith in f)
-    ∙ take-add l (l + l) w
-    ∙ ap (λ (u : List Float). x ++ u) (take-add l l (drop l w) ∙ ap (λ (u : List Float). y ++ take l u) (drop-drop l l w)) in
-    let turned : p ≡ (y ++ z) ++ x =
-    q ∙ ap (λ (u : List Float). drop l u ++ take l u) three
-    ∙ ap (λ (u : List Float). u ++ take l (x ++ (y ++ z))) (drop_at x (y ++ z) l lx) ∙ ap (λ (u : List Float). (y ++ z) ++ u) (take_at x (y ++ z) l lx) in
-    ap (λ (u : List Float). u ++ r) turned
-    ∙ append_assoc (y ++ z) x r
-    ∙ append_assoc y z (x ++ r)
-    ∙ ap (λ (k : ℕ). y ++ (z ++ (x ++ drop k w))) e
+-- as the code leaves it: the slice is cut at l, and behind that again; the first two rows change places, then the last two
+pub rotated-swapped :
+    (l : ℕ) (w f b g h x y z v : List Float) → f ≡ take l w → b ≡ drop l w → g ≡ take l b → h ≡ drop l b → x ≡ g → y ≡ f → z ≡ take l h → v ≡ y →
+    x ++ (z ++ (v ++ drop l h)) ≡ rotated l w
+rotated-swapped l w f b g h x y z v ef eb eg eh ex ey ez ev =
+    let two : drop l (drop l w) ≡ drop (l + l) w = drop-drop l l w in
+    let three : drop l (drop (l + l) w) ≡ drop (l + l + l) w = drop-drop l (l + l) w in
+    cc
 
 -- three rows of one length and what follows them
 pub rotated-rows : (a b c r : List Float) (l : ℕ) → length a ≡ l → length b ≡ l → length c ≡ l → rotated l (a ++ (b ++ (c ++ r))) ≡ b ++ (c ++ (a ++ r))
