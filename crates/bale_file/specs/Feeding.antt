@@ -69,9 +69,9 @@ abbrev on : ℕ → List ℕ → Fed → FedTo
 on i xs f = behind i (fed_bale (drop i xs) f)
 
 -- a loop over the bytes: where all are fed, at the byte that ends the bale, and at any other
-pub all-fed : (xs : List ℕ) (i : ℕ) (f : Fed) → i ≡ length xs → record { fed_to = f; used = length xs; ended = false } ≡ on i xs f
+pub all-fed : (xs : List ℕ) (i : ℕ) (f : Fed) → length xs ≤ i → record { fed_to = f; used = i; ended = false } ≡ on i xs f
 unfolding fed_bale
-all-fed xs i f e = let l : length xs ≤ i = omega arith in rw (drop_of_length-le xs l, add-zero i, e)
+all-fed xs i f l = rw (drop_of_length-le xs l, add-zero i)
 
 module _ (xs : List ℕ) (i : ℕ) (f g : Fed) (l : i < length xs) (e : g ≡ fed_byte (get_or xs i 0) f) where
   abbrev x : ℕ

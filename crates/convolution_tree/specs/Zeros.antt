@@ -1,8 +1,12 @@
 -- Zeros in a range.
-use Rattle.std.specs.Prelude.{◌≡◌, refl, List, ◌∷◌, ◌++◌, ℕ, zero, suc, ◌+◌, ◌≤◌, length, take, drop, replicate, Float}
+use Rattle.std.specs.Prelude.{◌≡◌, refl, List, [], ◌∷◌, ◌++◌, map, ℕ, zero, suc, ◌+◌, ◌≤◌, length, take, drop, replicate, Float}
 use Rattle.std.proofs.Common.{sym, ap, ◌∙◌, arith, take-append-drop}
 use Rattle.std.proofs.lemmas.List.{length-replicate}
 use Rattle.definition.specs.Floats.{zeroᶠ}
+
+pub map-zero : (l : List Float) → map (λ (x : Float). zeroᶠ) l ≡ replicate (length l) zeroᶠ
+map-zero [] = refl
+map-zero (x ∷ l) = ap {B = List Float} (λ t. zeroᶠ ∷ t) (map-zero l)
 
 pub zeros-part : (n a k : ℕ) → a + k ≤ n → take k (drop a (replicate n zeroᶠ)) ≡ replicate k zeroᶠ
 zeros-part n zero zero h = refl

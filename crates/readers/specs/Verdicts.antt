@@ -73,7 +73,7 @@ module _ (upper lower : List ℕ) (size : ℕ) where
       unfolding match_verdict or_refused lowest_place lowest_place_from
       left-to_order = simp (length-reads, le-ltb _ _ a, le-ltb _ _ b, le-ltb _ _ r)
 
-      upper_falls_lem : (i : ℕ) → lowest_place (falls (reads_of upper)) ≡ some i → refused 10 i ≡ match_verdict (reads_of upper) (reads_of lower) size
+      pub upper_falls_lem : (i : ℕ) → lowest_place (falls (reads_of upper)) ≡ some i → refused 10 i ≡ match_verdict (reads_of upper) (reads_of lower) size
       unfolding lowest_place
       upper_falls_lem i e = sym (stop 10 _ accepted i (first_of (falls (reads_of upper)) (falls (reads_of lower)) 0 i e)) ∙ left-to_order
 

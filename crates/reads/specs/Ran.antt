@@ -37,7 +37,7 @@ abbrev lent_by : List Float → List ℕ → List ℕ → List Float → Lent
 lent_by wf wn bn bf = lent_with wf wn bn bf (replicate 4096 0) (replicate 1024 zeroᶠ)
 
 -- the beliefs that an outcome counts
-abbrev count_in : call.Outcome → ℕ
+abbrev pub count_in : call.Outcome → ℕ
 count_in (answered n k) = n
 count_in (call.refused_at n p) = 0
 

@@ -1,5 +1,5 @@
 -- `bale_file::decoder::feed_bale` meets its contract. The loop's invariant: what is fed of the bytes that are left, counted from the first, is what is fed of all.
-use Rattle.std.proofs.Common.{arith, sym, ◌∙◌}
+use Rattle.std.proofs.Common.{◌≡◌, arith, length, sym, ◌∙◌}
 use Rattle.bale_file.specs.Feeding.{all-fed, bale-fed, bale-next}
 use Rattle.bale_file.specs.FirstBale.{first_of}
 use Rattle.bale_file.proofs.decoder.feed_bale.Goals as goal
@@ -17,5 +17,6 @@ loop-i-preserved c =
 
 pub returns : goal.returns
 returns c =
-    let e = all-fed _ _ _ (omega arith) ∙ c.loop-i.invariant in
+    let i : c.loop-i.i ≡ length c.args.bytes.now = omega arith in
+    let e = rw i at (all-fed c.args.bytes.now c.loop-i.i _ (omega arith) ∙ c.loop-i.invariant) in
     record { pairs_after = e; by_index = λ bs ms ps. first_of bs _ ms ps _ _ _ _ _ _ e }

@@ -1,5 +1,5 @@
 -- `convolution_tree::hand_over` meets its contract: after k turns the first k entries are handed over.
-use Rattle.std.proofs.Common.{◌≡◌, refl, ap, ◌∙◌, List, [], ◌∷◌, map, arith, length, get_or, replicate}
+use Rattle.std.proofs.Common.{refl, ap, ◌∙◌, List, arith, get_or}
 use Rattle.std.specs.Prelude.{Float}
 use Rattle.std.specs.Float.{nan}
 use lib.Ieee.{of_bits}
@@ -7,6 +7,7 @@ use Rattle.list_laws.specs.Write.{write-none}
 use Rattle.list_laws.specs.Whole.{start-next, write-whole}
 use Rattle.list_laws.specs.InPlace.{mapped_get, mapped-turn, mapped-all}
 use Rattle.definition.specs.Floats.{zeroᶠ}
+use Rattle.convolution_tree.specs.Zeros.{map-zero}
 use Rattle.convolution_tree.proofs.convolution.hand_over.Goals as goal
 
 pub loop-k-init : goal.loop-k-init
@@ -24,12 +25,8 @@ loop-k-preserved c =
       cleared = mapped-turn z a.from.now l.from l.k nan zeroᶠ (omega arith) (omega arith) v.cleared refl;
     }
 
-all-zero : (l : List Float) → map (λ (x : Float). zeroᶠ) l ≡ replicate (length l) zeroᶠ
-all-zero [] = refl
-all-zero (x ∷ l) = ap {B = List Float} (λ t. zeroᶠ ∷ t) (all-zero l)
-
 pub returns : goal.returns
 returns c =
     let l = c.loop-k in
     let a = c.args in
-    (l.invariant.handed ∙ write-whole nan a.to.now a.from.now l.k (omega arith) (omega arith), l.invariant.cleared ∙ mapped-all (λ (x : Float). zeroᶠ) l.k a.from.now (omega arith) ∙ all-zero a.from.now)
+    (l.invariant.handed ∙ write-whole nan a.to.now a.from.now l.k (omega arith) (omega arith), l.invariant.cleared ∙ mapped-all (λ (x : Float). zeroᶠ) l.k a.from.now (omega arith) ∙ map-zero a.from.now)
